@@ -1,0 +1,6 @@
+-- General definitions, each of which several crates cite.
+pub mod Choice
+pub mod Every
+pub mod Sums
+pub mod Over
+pub mod Answers

@@ -1,0 +1,5 @@
+-- The laws of the definitions, by subject; the crates above cite them too.
+pub mod FirstBytes
+pub mod Reading
+pub mod Sizes
+pub mod WellFormed

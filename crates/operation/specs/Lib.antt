@@ -1,0 +1,5 @@
+-- What bytes mean, in the paper's words. Read in this order.
+pub mod Limits
+pub mod FirstBytes
+pub mod Tree
+pub mod Reading
