@@ -3,3 +3,5 @@ pub mod FirstBytes
 pub mod Reading
 pub mod Sizes
 pub mod WellFormed
+pub mod Depth
+pub mod Writing

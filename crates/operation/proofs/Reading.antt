@@ -58,6 +58,10 @@ module _ (inner : List ℕ → Option Op) where
       go (some p) i e = more p i (readParts inner n (drop (opSize p) s)) refl e
       go none i e = none-some none qs refl e
 
+  pub split-of : (n : ℕ) (s : List ℕ) (qs : Ops) → 0 < n → readParts inner n s ≡ some qs → Split inner (n - 1) s qs
+  split-of zero s qs f e = absurd (omega arith)
+  split-of (suc n) s qs f e = rw (sub-one (suc n)) (split n s qs e)
+
   pub two-of : (s : List ℕ) (r : Op) → readTwo inner s ≡ some r → Two inner s r
   unfolding readTwo bind
   two-of s r e = go (inner s) refl e

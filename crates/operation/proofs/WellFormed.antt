@@ -68,7 +68,7 @@ module _ (l : Limits) (width : ℕ) (s : List ℕ) where
           by-cases (λ o. o ≡ some p → Formed l width s p) (eqb (opSize q) (length s))
           (λ u e.
           let v : q ≡ p = cc in
-          record { cells = leb-true _ _ (and-both _ _ t .0); bytes = leb-true _ _ (and-both _ _ t .1); is-read = i ∙ e; uses-all = rw v at (eqb-true _ _ u) })
+          record { cells = leb-true width (l .cells) (and-both (leb width (l .cells)) (leb (length s) (l .bytes)) t .0); bytes = leb-true (length s) (l .bytes) (and-both (leb width (l .cells)) (leb (length s) (l .bytes)) t .1); is-read = i ∙ e; uses-all = rw v at (eqb-true (opSize q) (length s) u) })
           (λ _ e. none-some none p refl e)
       inside t none i = λ e. none-some none p refl e
 

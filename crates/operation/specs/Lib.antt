@@ -3,3 +3,5 @@ pub mod Limits
 pub mod FirstBytes
 pub mod Tree
 pub mod Reading
+pub mod Writing
+pub mod Packing

@@ -26,6 +26,12 @@ pub enum Plain {
     Move(u8, u8, u16),
 }
 
+// An operation as it is kept: its length, and its bytes with zeros after them.
+pub struct Packed {
+    pub len: u8,
+    pub bytes: [u8; BYTES],
+}
+
 // Whether `s` is an operation where there are `width` cells.
 pub fn well_formed(s: &[u8], width: usize) -> bool
     ensures { λ r. ⌜ r ≡ wellFormed limits width (now (s .entry)) ⌝ }

@@ -1,0 +1,4 @@
+-- The laws of running, by subject; the crates above cite them too.
+pub mod Steps
+mod Walking
+pub mod Outcomes
