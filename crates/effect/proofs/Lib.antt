@@ -2,3 +2,5 @@
 pub mod Steps
 mod Walking
 pub mod Outcomes
+pub mod Replaying
+pub mod Keeping

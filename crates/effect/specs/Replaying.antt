@@ -10,6 +10,10 @@ use Rattle.operation.specs.Reading.{wellFormed}
 use Rattle.operation.specs.declared.Packed.{Packed}
 use Rattle.effect.specs.Running.{outcome, came}
 
+-- how many operations a queue has at most
+abbrev pub mostQueued : ℕ
+mostQueued = 16
+
 -- the cells after bytes were run: as they were where these fail
 unfoldable pub after : Limits → ℕ → List ℕ → List ℕ → List ℕ
 after l width s c = came c (outcome l width s c) .cells
@@ -22,3 +26,13 @@ replay l width (s ∷ ss) c = replay l width ss (after l width s c)
 -- the first n of a queue
 abbrev pub queued : ℕ → List Packed → List (List ℕ)
 queued n queue = map unpacked (take n queue)
+
+-- an operation that is kept as it was when it was judged
+pub record Sound (l : Limits) (width : ℕ) (o : Packed) : Type 0 where
+  pub fits : o .len ≤ l .bytes
+  pub formed : wellFormed l width (unpacked o) ≡ true
+
+-- the first n of a queue are there, and each is sound
+pub record Ready (l : Limits) (width n : ℕ) (queue : List Packed) : Type 0 where
+  pub there : n ≤ mostQueued
+  pub sound : (i : ℕ) → i < n → Sound l width (getD queue i nothing)

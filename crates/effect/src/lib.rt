@@ -5,10 +5,13 @@ mod walk;
 ghost use mathlib.Core.Path.{_≡_};
 ghost use mathlib.Core.Bool.{true};
 ghost use Prim.Native.Nat.{_≤_};
+ghost use lib.ListN.{take};
 ghost use Rattle.operation.specs.Limits.{limits};
 ghost use Rattle.operation.specs.Reading.{wellFormed};
 ghost use Rattle.effect.specs.Running.{did, came, outcome};
 ghost use Rattle.effect.specs.Telling.{told, tells};
+ghost use Rattle.operation.specs.Packing.{unpacked};
+ghost use Rattle.effect.specs.Replaying.{queued, replay as replayed, Ready, Sound};
 use basics::index;
 use operation::BYTES;
 use operation::CELLS;
@@ -56,4 +59,33 @@ pub fn run_known(s: &[u8], width: usize, cells: &mut Cells) -> Ran
     ensures { λ r. ⌜ did (r .ok) (now (cells .exit)) ≡ came (now (cells .entry)) (outcome limits width (now (s .entry)) (now (cells .entry))) ⌝ }
 {
     walk::operation(s, width, DEPTH, cells)
+}
+
+// The same of one that is kept.
+fn run_packed(o: Packed, width: usize, cells: &mut Cells) -> Ran
+    requires { ⌜ Sound limits width o ⌝ }
+    ensures { λ r. ⌜ did (r .ok) (now (cells .exit)) ≡ came (now (cells .entry)) (outcome limits width (unpacked o) (now (cells .entry))) ⌝ }
+{
+    let bytes = o.bytes;
+    run_front(bytes, index(o.len), width, cells)
+}
+
+// The same of the first `len` bytes of an array.
+fn run_front(bytes: [u8; BYTES], len: usize, width: usize, cells: &mut Cells) -> Ran
+    requires { ⌜ (len ≤ limits .bytes) × (wellFormed limits width (take len bytes) ≡ true) ⌝ }
+    ensures { λ r. ⌜ did (r .ok) (now (cells .exit)) ≡ came (now (cells .entry)) (outcome limits width (take len bytes) (now (cells .entry))) ⌝ }
+{
+    run_known(&bytes[..len], width, cells)
+}
+
+// Runs the first `n` of a queue one after another. One that fails changes no cell, and the next is run all the same.
+pub fn replay(queue: Queue, n: usize, width: usize, cells: &mut Cells)
+    requires { ⌜ Ready limits width n queue ⌝ }
+    ensures { λ _. ⌜ now (cells .exit) ≡ replayed limits width (queued n queue) (now (cells .entry)) ⌝ }
+{
+    let mut i: usize = 0;
+    while i < n {
+        run_packed(queue[i], width, cells);
+        i += 1;
+    }
 }
