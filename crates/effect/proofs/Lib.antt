@@ -4,3 +4,4 @@ mod Walking
 pub mod Outcomes
 pub mod Replaying
 pub mod Keeping
+pub mod Telling

@@ -40,8 +40,14 @@ fn atomic(s: &[u8], n: u8, width: usize, depth: usize, cells: &mut Cells) -> Ran
     if parts(s, n, width, depth, cells).ok {
         return Ran { ok: true };
     }
-    *cells = before;
+    put_back(before, cells);
     Ran { ok: false }
+}
+
+fn put_back(before: Cells, cells: &mut Cells)
+    ensures { λ _. ⌜ now (cells .exit) ≡ before ⌝ }
+{
+    *cells = before;
 }
 
 // Runs the `n` operations that `s` begins with one after another, up to the first that fails: the cells are then as

@@ -5,3 +5,4 @@ pub mod Sizes
 pub mod WellFormed
 pub mod Depth
 pub mod Writing
+pub mod Exact

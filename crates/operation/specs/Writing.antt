@@ -1,7 +1,10 @@
 -- The bytes of an operation: from the tree to bytes. Assumes nothing: these are definitions.
-use Prim.Native.Nat.{ℕ, _+_, _/_, _%_}
+use Prim.Native.Nat.{ℕ, suc, _/_, _%_, _≤_, _<_}
 use mathlib.Core.List.{List, [], _∷_, _++_}
-use Rattle.operation.specs.Tree.{Op, Ops, plain, atomic, orelse, end, _then_}
+use mathlib.Core.Path.{_≡_}
+use lib.ListN.{length}
+use Rattle.operation.specs.Limits.{Limits}
+use Rattle.operation.specs.Tree.{Op, Ops, plain, atomic, orelse, end, _then_, depthOf}
 use Rattle.operation.specs.declared.Plain.{Plain}
 use Rattle.operation.specs.declared.Plain.the-variants.{Need, Put, Draw, Move}
 
@@ -18,7 +21,7 @@ plainBytes (Move from to amount) = 0x04 ∷ from ∷ to ∷ amountBytes amount
 -- how many parts
 unfoldable pub count : Ops → ℕ
 count end = 0
-count (p then ps) = 1 + count ps
+count (p then ps) = suc (count ps)
 
 unfoldable mutual
   pub opBytes : Op → List ℕ
@@ -29,3 +32,29 @@ unfoldable mutual
   pub opsBytes : Ops → List ℕ
   opsBytes end = []
   opsBytes (p then ps) = opBytes p ++ opsBytes ps
+
+-- cells below the number of cells, an amount of 1 to the limit, and a MOVE between two cells
+abbrev pub PlainWithin : Limits → ℕ → Plain → Type 0
+PlainWithin l width (Need cell amount) = (cell < width) × (1 ≤ amount) × (amount ≤ l .amount)
+PlainWithin l width (Put cell amount) = (cell < width) × (1 ≤ amount) × (amount ≤ l .amount)
+PlainWithin l width (Draw cell amount) = (cell < width) × (1 ≤ amount) × (amount ≤ l .amount)
+PlainWithin l width (Move from to amount) =
+    (from < width) × (to < width) × (from ≡ to → ⊥) × (1 ≤ amount) × (amount ≤ l .amount)
+
+-- and no ATOMIC of more parts than the limit
+unfoldable mutual
+  pub OpWithin : Limits → ℕ → Op → Type 0
+  OpWithin l width (plain p) = PlainWithin l width p
+  OpWithin l width (atomic ps) = (count ps ≤ l .parts) × OpsWithin l width ps
+  OpWithin l width (orelse p q) = OpWithin l width p × OpWithin l width q
+
+  pub OpsWithin : Limits → ℕ → Ops → Type 0
+  OpsWithin l width end = Unit {0}
+  OpsWithin l width (p then ps) = OpWithin l width p × OpsWithin l width ps
+
+-- an operation within the limits: what the paper allows, said of trees and not of how bytes are read
+pub record Allowed (l : Limits) (width : ℕ) (p : Op) : Type 0 where
+  pub cells : width ≤ l .cells
+  pub depth : depthOf p ≤ l .depth
+  pub bytes : length (opBytes p) ≤ l .bytes
+  pub parts : OpWithin l width p

@@ -1,4 +1,5 @@
 // The cells of a trial: decimal numbers with commas between them.
+ghost use Prim.Native.Nat.{_≤_};
 use effect::Cells;
 use operation::CELLS;
 use operation::HELD;
@@ -15,7 +16,9 @@ const NOTHING: u32 = HELD + 1;
 const WRONG: u32 = HELD + 2;
 
 // The cells that `s` lists: not ok where it lists none, too many, or what is no number up to the limit.
-pub fn read(s: &[u8]) -> Given {
+pub fn read(s: &[u8]) -> Given
+    ensures { λ r. ⌜ r .width ≤ 64 ⌝ }
+{
     let mut given = Given {
         ok: true,
         width: 0,
@@ -25,19 +28,26 @@ pub fn read(s: &[u8]) -> Given {
     let mut i = 0;
     while i < s.len() {
         let b = s[i];
-        if b == b',' {
-            given = with(given, value);
-            value = NOTHING;
-        } else {
-            value = digit(value, b);
-        }
+        given = at_comma(given, value, b);
+        value = digit(value, b);
         i += 1;
     }
     with(given, value)
 }
 
-// The number whose digits so far are `value`, followed by `b`.
+// A comma ends a cell.
+fn at_comma(given: Given, value: u32, b: u8) -> Given
+    requires { ⌜ given .width ≤ 64 ⌝ }
+    ensures { λ r. ⌜ r .width ≤ 64 ⌝ }
+{
+    if b == b',' { with(given, value) } else { given }
+}
+
+// The number whose digits so far are `value`, followed by `b`; a comma starts the next.
 fn digit(value: u32, b: u8) -> u32 {
+    if b == b',' {
+        return NOTHING;
+    }
     if b < b'0' {
         return WRONG;
     }
@@ -55,7 +65,10 @@ fn digit(value: u32, b: u8) -> u32 {
 }
 
 // One cell more.
-fn with(given: Given, value: u32) -> Given {
+fn with(given: Given, value: u32) -> Given
+    requires { ⌜ given .width ≤ 64 ⌝ }
+    ensures { λ r. ⌜ r .width ≤ 64 ⌝ }
+{
     let at = given.width;
     let mut next = given;
     if HELD < value {

@@ -38,6 +38,7 @@ pub fn answer(line: &[u8], out: &mut [u8]) -> usize
 
 // Runs the operation on the cells and puts what becomes of them.
 fn run(op: &[u8], given: cells::Given, out: &mut [u8]) -> usize
+    requires { ⌜ given .width ≤ 64 ⌝ }
     ensures { λ r. ⌜ r ≤ length (now (out .exit)) ⌝ }
 {
     let width = given.width;

@@ -2,7 +2,6 @@
 ghost use Prim.Native.Nat.{_≤_};
 ghost use lib.ListN.{length};
 use effect::Cells;
-use operation::CELLS;
 
 // Puts `s` from `at` on, and answers where it ends.
 pub fn put(s: &[u8], out: &mut [u8], at: usize) -> usize
@@ -24,15 +23,12 @@ pub fn put(s: &[u8], out: &mut [u8], at: usize) -> usize
 
 // Puts the first `width` cells with commas between them.
 pub fn put_cells(cells: Cells, width: usize, out: &mut [u8], at: usize) -> usize
-    requires { ⌜ at ≤ length (now out) ⌝ }
+    requires { ⌜ (at ≤ length (now out)) × (width ≤ 64) ⌝ }
     ensures { λ r. ⌜ r ≤ length (now (out .exit)) ⌝ }
 {
     let mut to = at;
     let mut i = 0;
     while i < width {
-        if CELLS <= i {
-            return to;
-        }
         to = put_cell(i, cells[i], out, to);
         i += 1;
     }

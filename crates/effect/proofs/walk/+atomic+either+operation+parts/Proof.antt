@@ -21,6 +21,7 @@ use Rattle.effect.proofs.walk.parts.Kinds as parts-kinds
 use Rattle.effect.proofs.walk.+atomic+either+operation+parts.Lts-parts as parts-lts
 use Rattle.basics.proofs.after.Reads as after-reads
 use Rattle.effect.proofs.plain.apply.Reads as apply-reads
+use Rattle.effect.proofs.walk.put_back.Reads as put-back-reads
 use Rattle.operation.proofs.kind.read.Reads as read-reads
 use Rattle.operation.proofs.size.operation.Reads as operation-reads
 use Rattle.effect.proofs.walk.+atomic+either+operation+parts.{statement}
@@ -65,7 +66,7 @@ parts-below t = and 2 parts-kinds.ps (falls 2 parts-kinds.ps _<_ μ-parts t) par
 
 -- what each member is told of those that it calls
 abbrev atomic-calls : ℕ → atomic-lts.Claims
-atomic-calls t = (parts-below t, parts.Post)
+atomic-calls t = (parts-below t, parts.Post, put-back-reads.Asked, put-back-reads.Learnt)
 
 abbrev either-calls : ℕ → either-lts.Claims
 either-calls t = (operation-below t, operation.Post, operation-reads.Asked, operation-reads.Learnt, after-reads.Asked, after-reads.Learnt)
@@ -84,9 +85,15 @@ atomic-returns :
     (t : ℕ) → atomic-lts.Need-returns (atomic-calls t) (atomic-at t) atomic.Post
 atomic-returns t c = atomic-yes limits _ _ _ _ _ (c .before .parts .ensures) (c .if1 .taken)
 
+atomic-put-back-requires :
+    (t : ℕ) → atomic-lts.Need-put-back-requires (atomic-calls t) (atomic-at t) atomic.Post
+atomic-put-back-requires t c κs = search needs
+
 atomic-returns-2 :
     (t : ℕ) → atomic-lts.Need-returns-2 (atomic-calls t) (atomic-at t) atomic.Post
-atomic-returns-2 t c = atomic-no limits _ _ _ _ _ (c .before .parts .ensures) (c .if1 .left)
+atomic-returns-2 t c =
+    rw (c .put-back .ensures)
+    (atomic-no limits _ _ _ _ _ (c .before .before .before .parts .ensures) (c .before .before .if1 .left))
 
 either-operation-requires : (t : ℕ) → either-lts.Need-operation-requires (either-calls t) (either-at t) either.Post
 either-operation-requires t c κs = search needs
@@ -207,12 +214,12 @@ pub +atomic+either+operation+parts-spec : {M : Type 1} → statement M
     μ-either
     μ-operation
     μ-parts
-    (λ t. atomic-lts.spec
-    (parts-below t, parts.Post)
+    (λ t. atomic-lts.spec (atomic-calls t)
     (atomic-at t)
     atomic.Post
     (atomic-parts-requires t)
     (atomic-returns t)
+    (atomic-put-back-requires t)
     (atomic-returns-2 t))
     (λ t. either-lts.spec (either-calls t)
     (either-at t)

@@ -5,7 +5,7 @@ use Rattle.trial.proofs.cells.read.Statement.{statement}
 use Rattle.trial.proofs.cells.read.Tie as tie
 
 abbrev Inv-loop : tie.InvT-loop
-Inv-loop s given₀ value₀ i₀ given value i = i ≤ length s
+Inv-loop s given₀ value₀ i₀ given value i = (i ≤ length s) × (given .width ≤ 64)
 
 abbrev μ-loop : tie.MeasureT-loop
 μ-loop s given₀ value₀ i₀ given value i = length s - i
@@ -16,8 +16,8 @@ loop-holds c = search needs
 shared-slice-read-b : tie.Need-shared-slice-read-b Inv-loop μ-loop
 shared-slice-read-b c = search needs
 
-with-requires : tie.Need-with-requires Inv-loop μ-loop
-with-requires c κs = search needs
+at-comma-requires : tie.Need-at-comma-requires Inv-loop μ-loop
+at-comma-requires c κs = search needs
 
 digit-requires : tie.Need-digit-requires Inv-loop μ-loop
 digit-requires c κs = search needs
@@ -31,8 +31,8 @@ loop-less c = search needs
 loop-again : tie.Need-loop-again Inv-loop μ-loop
 loop-again c = search needs
 
-with-requires-2 : tie.Need-with-requires-2 Inv-loop μ-loop
-with-requires-2 c κs = search needs
+with-requires : tie.Need-with-requires Inv-loop μ-loop
+with-requires c κs = search needs
 
 returns : tie.Need-returns Inv-loop μ-loop
 returns c = search needs
@@ -45,10 +45,10 @@ read-spec =
     μ-loop
     loop-holds
     shared-slice-read-b
-    with-requires
+    at-comma-requires
     digit-requires
     add-i
     loop-less
     loop-again
-    with-requires-2
+    with-requires
     returns)
