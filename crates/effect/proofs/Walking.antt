@@ -9,7 +9,8 @@ use lib.ListN.{drop}
 use Rattle.operation.specs.Limits.{Limits}
 use Rattle.operation.specs.FirstBytes.{kindOf}
 use Rattle.operation.specs.Tree.{Op, Ops, plain, atomic, orelse, end, _then_, opSize}
-use Rattle.operation.specs.Reading.{readParts, readTwo, readBody, readOp, sizeOf}
+use Rattle.operation.specs.Reading.{readParts, readTwo, readBody, readOp}
+use Rattle.operation.specs.Sizes.{sizeOf}
 use Rattle.operation.specs.declared.Plain.{Plain}
 use Rattle.operation.specs.declared.Plain.the-variants.{Need, Put, Draw, Move}
 use Rattle.operation.specs.declared.kind.Kind.the-variants.{One, Atomic, Orelse, Malformed}

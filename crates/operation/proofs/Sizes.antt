@@ -11,7 +11,8 @@ use lib.ListN.{length, drop, length-drop}
 use Rattle.operation.specs.Limits.{Limits}
 use Rattle.operation.specs.FirstBytes.{kindOf}
 use Rattle.operation.specs.Tree.{Op, Ops, plain, atomic, orelse, end, _then_, plainSize, opSize, opsSize}
-use Rattle.operation.specs.Reading.{readParts, readTwo, readBody, readOp, sizeOf, sizesOf, plus, Room}
+use Rattle.operation.specs.Reading.{readParts, readTwo, readBody, readOp}
+use Rattle.operation.specs.Sizes.{sizeOf, sizesOf, plus, Room}
 use Rattle.operation.specs.declared.Plain.{Plain}
 use Rattle.operation.specs.declared.Plain.the-variants.{Need, Put, Draw, Move}
 use Rattle.operation.specs.declared.kind.Kind.{Kind}

@@ -12,7 +12,8 @@ use Rattle.basics.specs.Choice.{if_then_else_}
 use Rattle.basics.proofs.Choice.{and-both, by-cases}
 use Rattle.operation.specs.Limits.{Limits}
 use Rattle.operation.specs.Tree.{Op, opSize}
-use Rattle.operation.specs.Reading.{readOp, whole, operationOf, isSome, wellFormed, sizeOf}
+use Rattle.operation.specs.Reading.{readOp, whole, operationOf, isSome, wellFormed}
+use Rattle.operation.specs.Sizes.{sizeOf}
 use Rattle.operation.proofs.Reading.{none-some}
 use Rattle.operation.specs.declared.size.Size.the-variants.{Bytes, Malformed as NoSize}
 

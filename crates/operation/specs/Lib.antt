@@ -5,3 +5,4 @@ pub mod Tree
 pub mod Reading
 pub mod Writing
 pub mod Packing
+pub mod Sizes

@@ -1,5 +1,5 @@
 -- The operation that bytes are: from bytes to the tree. Assumes nothing: these are definitions.
-use Prim.Native.Nat.{ℕ, zero, suc, _+_, _^_, _<_}
+use Prim.Native.Nat.{ℕ, zero, suc}
 use mathlib.Core.Bool.{Bool, true, false, _&&_}
 use mathlib.Core.List.{List}
 use mathlib.Core.Option.{Option, some, none, Option·map, bind}
@@ -8,11 +8,9 @@ use lib.ListN.{length, drop}
 use Rattle.basics.specs.Choice.{if_then_else_}
 use Rattle.operation.specs.Limits.{Limits}
 use Rattle.operation.specs.FirstBytes.{kindOf}
-use Rattle.operation.specs.Tree.{Op, Ops, plain, atomic, orelse, end, _then_, opSize, opsSize}
+use Rattle.operation.specs.Tree.{Op, Ops, plain, atomic, orelse, end, _then_, opSize}
 use Rattle.operation.specs.declared.kind.Kind.{Kind}
 use Rattle.operation.specs.declared.kind.Kind.the-variants.{One, Atomic, Orelse, Malformed}
-use Rattle.operation.specs.declared.size.Size.{Size}
-use Rattle.operation.specs.declared.size.Size.the-variants.{Bytes, Malformed as NoSize}
 
 -- the n operations that s begins with, each read by `inner`
 unfoldable pub readParts : (List ℕ → Option Op) → ℕ → List ℕ → Option Ops
@@ -54,21 +52,3 @@ isSome none = false
 
 unfoldable pub wellFormed : Limits → ℕ → List ℕ → Bool
 wellFormed l width s = isSome (operationOf l width s)
-
--- how many bytes were read
-abbrev pub sizeOf : Option Op → Size
-sizeOf (some p) = Bytes (opSize p)
-sizeOf none = NoSize
-
-abbrev pub sizesOf : Option Ops → Size
-sizesOf (some ps) = Bytes (opsSize ps)
-sizesOf none = NoSize
-
--- n bytes more, where the sum is a number of the machine's
-abbrev pub plus : ℕ → Size → Size
-plus n (Bytes k) = Bytes (n + k)
-plus n NoSize = NoSize
-
-abbrev pub Room : ℕ → Size → Type 0
-Room n (Bytes k) = n + k < 2 ^ 64
-Room n NoSize = Unit {0}

@@ -3,12 +3,10 @@ ghost use mathlib.Core.Path.{_≡_};
 ghost use Prim.Native.Nat.{_+_, _*_, _≤_};
 ghost use Rattle.operation.specs.Limits.{limits};
 ghost use Rattle.operation.specs.FirstBytes.{fieldsAt, moveOf, atomicOf, kindOf};
+use crate::AMOUNT;
+use crate::PARTS;
 use crate::Plain;
 use basics::index;
-
-const AMOUNT: u16 = 10_000;
-
-const PARTS: u8 = 15;
 
 // The kind that the first byte decides: all of a plain operation, how many parts an ATOMIC has.
 pub enum Kind {

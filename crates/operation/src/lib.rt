@@ -9,14 +9,20 @@ ghost use Rattle.operation.specs.Limits.{limits};
 ghost use Rattle.operation.specs.Reading.{wellFormed};
 use size::Size;
 
-// The paper's sizes: how many cells there are at most and what each holds, how long and how deep an operation is.
+// The paper's sizes and limits; specs/Limits.antt has them by the same names. Of cells: how many there are at most, and
+// what each holds at most.
 pub const CELLS: usize = 64;
 
 pub const HELD: u32 = 999_999;
 
+// Of an operation: how many bytes and how deep, an amount, and the parts of an ATOMIC.
 pub const BYTES: usize = 48;
 
 pub const DEPTH: usize = 4;
+
+pub const AMOUNT: u16 = 10_000;
+
+pub const PARTS: u8 = 15;
 
 // One of the four plain kinds: a cell, for `Move` the cell from and the cell to, and an amount.
 pub enum Plain {

@@ -2,7 +2,8 @@
 ghost use mathlib.Core.Path.{_≡_};
 ghost use Rattle.operation.specs.Limits.{limits};
 ghost use Rattle.operation.specs.Tree.{plainSize};
-ghost use Rattle.operation.specs.Reading.{readOp, readParts, sizeOf, sizesOf, plus, Room};
+ghost use Rattle.operation.specs.Reading.{readOp, readParts};
+ghost use Rattle.operation.specs.Sizes.{sizeOf, sizesOf, plus, Room};
 use crate::Plain;
 use crate::kind;
 use basics::after;
