@@ -4,7 +4,9 @@ use mathlib.Core.Path.{_≡_, refl}
 use Rattle.basics.specs.Choice.{if_then_else_}
 
 -- what holds of each of two values by the test's answer holds of the one chosen
-pub by-cases : {A : Type 0} (P : A → Type 0) (t : Bool) {a b : A} → (t ≡ true → P a) → (t ≡ false → P b) → P (if t then a else b)
+pub by-cases :
+    {A : Type 0} (P : A → Type 0) (t : Bool) {a b : A} → (t ≡ true → P a) → (t ≡ false → P b) →
+    P (if t then a else b)
 by-cases P true f g = f refl
 by-cases P false f g = g refl
 

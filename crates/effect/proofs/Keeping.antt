@@ -1,30 +1,26 @@
 -- Laws of what running keeps: the number of cells, their limit, and every cell past the number of cells. Assumes nothing.
 use Prim.Native.Nat.{ℕ, zero, suc, _+_, _-_, _≤_, _<_}
 use native.Mathlib.Omega.{arith}
-use mathlib.Core.Bool.{true, false, _&&_}
+use mathlib.Core.Bool.{true, _&&_}
 use mathlib.Core.List.{List, [], _∷_}
 use mathlib.Core.Logic.{_⊎_, inl, inr, ⊎-elim}
 use mathlib.Core.Option.{Option, some, none, bind, orElse}
-use mathlib.Core.Path.{_≡_, refl, sym, _∙_}
+use mathlib.Core.Path.{_≡_, refl, _∙_}
 use lib.Dec.{leb}
-use lib.ListN.{length, set, drop, length-set}
+use lib.ListN.{length, set, length-set}
 use lib.Seq.{getD-set-other}
 use borrow.Author.Tests.{leb-true}
-use Rattle.basics.specs.Choice.{if_then_else_}
 use Rattle.basics.proofs.Choice.{by-cases, and-both}
 use Rattle.operation.specs.Limits.{Limits}
-use Rattle.operation.specs.FirstBytes.{kindOf}
-use Rattle.operation.specs.Tree.{Op, Ops, plain, atomic, orelse, end, _then_, opSize}
+use Rattle.operation.specs.Tree.{Op, Ops}
 use Rattle.operation.specs.Reading.{readOp, operationOf}
 use Rattle.operation.specs.declared.Plain.{Plain}
 use Rattle.operation.specs.declared.Plain.the-variants.{Need, Put, Draw, Move}
-use Rattle.operation.specs.declared.kind.Kind.the-variants.{One, Atomic, Orelse}
-use Rattle.operation.proofs.Reading.{none-some, reads-op}
+use Rattle.operation.proofs.Reading.{none-some, ByKinds, reads-op}
 use Rattle.operation.proofs.WellFormed.{formed}
 use Rattle.effect.specs.Running.{cell, step, run, runAll, outcome, came}
 use Rattle.effect.specs.Replaying.{after, replay}
 use Rattle.effect.specs.Walking.{Inside}
-use Rattle.effect.proofs.Outcomes.{outcome-is}
 use Rattle.effect.proofs.Walking.{kind-inside}
 
 -- from the cells c to the cells d
@@ -53,7 +49,9 @@ module _ (l : Limits) (width : ℕ) where
   }
 
   -- a store of no more than the limit, or of no more than the cell held
-  kept-set : (c : List ℕ) (k v : ℕ) → k < width → (((i : ℕ) → cell c i ≤ l .held) → v ≤ l .held) → Kept l width c (set c k v)
+  kept-set :
+      (c : List ℕ) (k v : ℕ) → k < width → (((i : ℕ) → cell c i ≤ l .held) → v ≤ l .held) →
+      Kept l width c (set c k v)
   kept-set c k v inside small = record {
     count = length-set c k v;
     most = λ h i.
@@ -100,36 +98,43 @@ module _ (l : Limits) (width : ℕ) where
   record AllKeep (d n : ℕ) (s : List ℕ) (ps : Ops) : Type 0 where
     keeps : (c e : List ℕ) → runAll l ps c ≡ some e → Kept l width c e
 
-  on-plain : (d : ℕ) (s : List ℕ) (p : Plain) → One p ≡ kindOf l width s → Keeps (suc d) s (plain p)
+  first-that-does :
+      (p q : Op) (c e : List ℕ) →
+      ((d : List ℕ) → run l p c ≡ some d → Kept l width c d) →
+      ((d : List ℕ) → run l q c ≡ some d → Kept l width c d) →
+      (o : Option (List ℕ)) → run l p c ≡ o → orElse o (run l q c) ≡ some e → Kept l width c e
+  unfolding orElse
+  first-that-does p q c e f g (some x) i r = f e (i ∙ r)
+  first-that-does p q c e f g none i r = g e r
+
+  one-after-another :
+      (p : Op) (ps : Ops) (c e : List ℕ) →
+      ((d : List ℕ) → run l p c ≡ some d → Kept l width c d) →
+      ((d : List ℕ) → runAll l ps d ≡ some e → Kept l width d e) →
+      (o : Option (List ℕ)) → run l p c ≡ o → bind o (λ d. runAll l ps d) ≡ some e → Kept l width c e
+  unfolding bind
+  one-after-another p ps c e f g (some x) i r = kept-both c x e (f x i) (g x r)
+  one-after-another p ps c e f g none i r = none-some none e refl r
+
+  keep : ByKinds l width Keeps AllKeep
   unfolding run
-  on-plain d s p h = record { keeps = λ c e r. step-keeps p (kind-inside l width width s p (omega arith) h) c e r }
+  keep = record {
+    on-plain = λ d s p h. record { keeps = step-keeps p (kind-inside l width width s p (omega arith) h) };
+    on-atomic = λ d n s ps h f. record { keeps = f .keeps };
+    on-orelse =
+        λ d s p q h f g. record
+        { keeps = λ c e. first-that-does p q c e (f .keeps c) (g .keeps c) (run l p c) refl };
+    on-end = λ d s. record { keeps = λ c e r. let v : e ≡ c = cc in rw v (kept-same c) };
+    on-then =
+        λ d n s p ps f g. record
+        { keeps = λ c e. one-after-another p ps c e (f .keeps c) (λ x. g .keeps x e) (run l p c) refl };
+  }
 
-  on-atomic : (d n : ℕ) (s : List ℕ) (ps : Ops) → Atomic n ≡ kindOf l width s → AllKeep d n (drop 2 s) ps → Keeps (suc d) s (atomic ps)
-  unfolding run
-  on-atomic d n s ps h f = record { keeps = f .keeps }
-
-  on-orelse : (d : ℕ) (s : List ℕ) (p q : Op) → Orelse ≡ kindOf l width s → Keeps d (drop 1 s) p → Keeps d (drop (opSize p) (drop 1 s)) q → Keeps (suc d) s (orelse p q)
-  unfolding run orElse
-  on-orelse d s p q h f g = record { keeps = λ c e r. go c e (run l p c) refl r }
-    where
-      go : (c e : List ℕ) (o : Option (List ℕ)) → run l p c ≡ o → orElse o (run l q c) ≡ some e → Kept l width c e
-      go c e (some x) i r = f .keeps c e (i ∙ r)
-      go c e none i r = g .keeps c e r
-
-  on-end : (d : ℕ) (s : List ℕ) → AllKeep d 0 s end
-  unfolding run
-  on-end d s = record { keeps = λ c e r. let v : e ≡ c = cc in rw v (kept-same c) }
-
-  on-then : (d n : ℕ) (s : List ℕ) (p : Op) (ps : Ops) → Keeps d s p → AllKeep d n (drop (opSize p) s) ps → AllKeep d (suc n) s (p then ps)
-  unfolding run bind
-  on-then d n s p ps f g = record { keeps = λ c e r. go c e (run l p c) refl r }
-    where
-      go : (c e : List ℕ) (o : Option (List ℕ)) → run l p c ≡ o → bind o (λ x. runAll l ps x) ≡ some e → Kept l width c e
-      go c e (some x) i r = kept-both c x e (f .keeps c x i) (g .keeps x e r)
-      go c e none i r = none-some none e refl r
-
-  pub run-keeps : (depth : ℕ) (s : List ℕ) (p : Op) → readOp l width depth s ≡ some p → (c d : List ℕ) → run l p c ≡ some d → Kept l width c d
-  run-keeps depth s p e = reads-op l width Keeps AllKeep on-plain on-atomic on-orelse on-end on-then depth s p e .keeps
+  pub run-keeps :
+      (depth : ℕ) (s : List ℕ) (p : Op) → readOp l width depth s ≡ some p → (c d : List ℕ) → run l p c ≡ some d →
+      Kept l width c d
+  run-keeps depth s p e =
+      reads-op l width Keeps AllKeep keep depth s p e .keeps
 
   -- and so do bytes that are run, and a list of them
   pub outcome-keeps : (s c d : List ℕ) → outcome l width s c ≡ some d → Kept l width c d
@@ -156,4 +161,6 @@ module _ (l : Limits) (width : ℕ) where
   pub replay-keeps : (ss : List (List ℕ)) (c : List ℕ) → Kept l width c (replay l width ss c)
   unfolding replay
   replay-keeps [] c = kept-same c
-  replay-keeps (s ∷ ss) c = kept-both c (after l width s c) (replay l width ss (after l width s c)) (after-keeps s c) (replay-keeps ss (after l width s c))
+  replay-keeps (s ∷ ss) c =
+      kept-both c (after l width s c) (replay l width ss (after l width s c)) (after-keeps s c)
+      (replay-keeps ss (after l width s c))

@@ -1,6 +1,6 @@
 -- Laws of running bytes: from the walk to the outcome, and from the outcome to what is told. Assumes nothing.
 use Prim.Native.Nat.{ℕ, _≤_}
-use mathlib.Core.Bool.{Bool, true, false, true≢false, false≢true}
+use mathlib.Core.Bool.{true, false, true≢false, false≢true}
 use mathlib.Core.List.{List}
 use mathlib.Core.Option.{Option, some, none, bind}
 use mathlib.Core.Path.{_≡_, refl, sym, ap, _∙_}
@@ -8,7 +8,7 @@ use Rattle.operation.specs.Limits.{Limits}
 use Rattle.operation.specs.Tree.{Op}
 use Rattle.operation.specs.Reading.{readOp, operationOf, isSome, wellFormed}
 use Rattle.operation.proofs.WellFormed.{formed, op-of}
-use Rattle.effect.specs.Running.{run, outcome, Came, did, came}
+use Rattle.effect.specs.Running.{run, outcome, Came, came}
 use Rattle.effect.specs.Telling.{told, tells, tellsOp, tellsBytes}
 use Rattle.effect.specs.Walking.{RunsOp}
 use Rattle.effect.specs.declared.Verdict.the-variants.{Malformed, Fails, Succeeds}
@@ -32,14 +32,16 @@ module _ (l : Limits) (width : ℕ) (s c : List ℕ) where
     unfolding tells
     tells-op = let p = op-of l width s good in rw (outcome-is (p .0) (p .1), p .1)
 
-    pub told-yes : (r : Came) → r ≡ came c (outcome l width s c) → r .ok ≡ true → told Succeeds (r .cells) ≡ tells l width s c
+    pub told-yes :
+        (r : Came) → r ≡ came c (outcome l width s c) → r .ok ≡ true → told Succeeds (r .cells) ≡ tells l width s c
     told-yes r e h = rw tells-op (go (outcome l width s c) e)
       where
         go : (o : Option (List ℕ)) → r ≡ came c o → told Succeeds (r .cells) ≡ tellsOp c o
         go (some d) e = rw e
         go none e = absurd (true≢false (sym h ∙ ap (λ (x : Came). x .ok) e))
 
-    pub told-no : (r : Came) → r ≡ came c (outcome l width s c) → r .ok ≡ false → told Fails (r .cells) ≡ tells l width s c
+    pub told-no :
+        (r : Came) → r ≡ came c (outcome l width s c) → r .ok ≡ false → told Fails (r .cells) ≡ tells l width s c
     told-no r e h = rw tells-op (go (outcome l width s c) e)
       where
         go : (o : Option (List ℕ)) → r ≡ came c o → told Fails (r .cells) ≡ tellsOp c o

@@ -38,7 +38,9 @@ module _ (l : Limits) (c : List ℕ) where
     draw-no h = simp (lt-leb _ _ h)
 
   module _ (k j a : ℕ) where
-    pub move-yes : a ≤ cell c k → cell c j + a ≤ l .held → step l (Move k j a) c ≡ some (set (set c k (cell c k - a)) j (cell c j + a))
+    pub move-yes :
+        a ≤ cell c k → cell c j + a ≤ l .held →
+        step l (Move k j a) c ≡ some (set (set c k (cell c k - a)) j (cell c j + a))
     unfolding step
     move-yes g h = simp (le-leb _ _ g, le-leb _ _ h)
 

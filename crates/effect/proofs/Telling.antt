@@ -29,7 +29,9 @@ module _ (c d : List ℕ) where
       cells-of Succeeds x = refl
 
 -- any two answers to one call, with the cells that they leave, are the same
-pub run-unique : (l : Limits) (width : ℕ) (s c d e : List ℕ) (r q : Verdict) → told r d ≡ tells l width s c → told q e ≡ tells l width s c → (r ≡ q) × (d ≡ e)
+pub run-unique :
+    (l : Limits) (width : ℕ) (s c d e : List ℕ) (r q : Verdict) → told r d ≡ tells l width s c →
+    told q e ≡ tells l width s c → (r ≡ q) × (d ≡ e)
 run-unique l width s c d e r q f g =
     let h : told r d ≡ told q e = f ∙ sym g in
     (one-verdict d e r q h, same-cells d e r q h)

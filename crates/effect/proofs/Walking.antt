@@ -1,15 +1,15 @@
 -- Laws of the walk over the bytes: what each way through it comes to. Assumes nothing.
 use Prim.Native.Nat.{ℕ, _-_, _<_, _≤_}
 use native.Mathlib.Omega.{arith}
-use mathlib.Core.Bool.{Bool, true, false, true≢false, false≢true}
+use mathlib.Core.Bool.{true, false, true≢false, false≢true}
 use mathlib.Core.List.{List}
 use mathlib.Core.Option.{Option, some, none, Option·map, bind, orElse}
 use mathlib.Core.Path.{_≡_, refl, sym, ap, _∙_}
 use lib.ListN.{drop}
 use Rattle.operation.specs.Limits.{Limits}
 use Rattle.operation.specs.FirstBytes.{kindOf}
-use Rattle.operation.specs.Tree.{Op, Ops, plain, atomic, orelse, end, _then_, opSize}
-use Rattle.operation.specs.Reading.{readParts, readTwo, readBody, readOp}
+use Rattle.operation.specs.Tree.{Op, Ops, plain, atomic, end, opSize}
+use Rattle.operation.specs.Reading.{readParts, readBody, readOp}
 use Rattle.operation.specs.Sizes.{sizeOf}
 use Rattle.operation.specs.declared.Plain.{Plain}
 use Rattle.operation.specs.declared.Plain.the-variants.{Need, Put, Draw, Move}
@@ -17,12 +17,12 @@ use Rattle.operation.specs.declared.kind.Kind.the-variants.{One, Atomic, Orelse
 use Rattle.operation.specs.declared.size.Size.the-variants.{Bytes, Malformed as NoSize}
 use Rattle.operation.proofs.FirstBytes.{PlainRead, kind-is}
 use Rattle.operation.proofs.Reading.{none-some, read-step, split-of, two-of}
-use Rattle.operation.proofs.Sizes.{sized}
 use Rattle.effect.specs.Running.{step, run, runAll, Came, did, came}
 use Rattle.effect.specs.Walking.{Inside, RunsOp, RunsEither, RunsAtomic, RunsParts, Leaves}
 
 -- the cells that a plain operation names are there
-pub kind-inside : (l : Limits) (width m : ℕ) (s : List ℕ) (p : Plain) → width ≤ m → One p ≡ kindOf l width s → Inside m p
+pub kind-inside :
+    (l : Limits) (width m : ℕ) (s : List ℕ) (p : Plain) → width ≤ m → One p ≡ kindOf l width s → Inside m p
 kind-inside l width m s p h e = go p (kind-is l width s (One p) e)
   where
     go : (p : Plain) → PlainRead l width s p → Inside m p
@@ -51,22 +51,31 @@ module _ (l : Limits) (width depth : ℕ) (s c : List ℕ) (r : Came) where
     unfolding readBody
     run-malformed h p e = none-some (readOp l width depth s) p (rw (read-step l width depth s f, ← h)) e
 
-    pub run-one : (p : Plain) → One p ≡ kindOf l width s → r ≡ came c (step l p c) → RunsOp l (readOp l width depth) s c r
+    pub run-one :
+        (p : Plain) → One p ≡ kindOf l width s → r ≡ came c (step l p c) → RunsOp l (readOp l width depth) s c r
     unfolding readBody run
     run-one p h q o e =
         let w : some o ≡ some (plain p) = sym e ∙ rw (read-step l width depth s f, ← h) in
         let v : o ≡ plain p = cc in
         rw v q
 
-    pub run-atomic : (n : ℕ) (t : List ℕ) → Atomic n ≡ kindOf l width s → t ≡ drop 2 s → RunsAtomic l (readOp l width (depth - 1)) n t c r → RunsOp l (readOp l width depth) s c r
+    pub run-atomic :
+        (n : ℕ) (t : List ℕ) → Atomic n ≡ kindOf l width s → t ≡ drop 2 s →
+        RunsAtomic l (readOp l width (depth - 1)) n t c r → RunsOp l (readOp l width depth) s c r
     unfolding readBody run
-    run-atomic n t h u q o e = go (readParts (readOp l width (depth - 1)) n (drop 2 s)) (rw u at q) o (rw (read-step l width depth s f, ← h) at e)
+    run-atomic n t h u q o e =
+        go (readParts (readOp l width (depth - 1)) n (drop 2 s)) (rw u at q) o
+        (rw (read-step l width depth s f, ← h) at e)
       where
-        go : (ops : Option Ops) → ((ps : Ops) → ops ≡ some ps → r ≡ came c (runAll l ps c)) → (o : Op) → Option·map atomic ops ≡ some o → r ≡ came c (run l o c)
+        go :
+            (ops : Option Ops) → ((ps : Ops) → ops ≡ some ps → r ≡ came c (runAll l ps c)) → (o : Op) →
+            Option·map atomic ops ≡ some o → r ≡ came c (run l o c)
         go (some ps) k o e = let v : o ≡ atomic ps = cc in rw v (k ps refl)
         go none k o e = none-some none o refl e
 
-    pub run-orelse : (t : List ℕ) → Orelse ≡ kindOf l width s → t ≡ drop 1 s → RunsEither l (readOp l width (depth - 1)) t c r → RunsOp l (readOp l width depth) s c r
+    pub run-orelse :
+        (t : List ℕ) → Orelse ≡ kindOf l width s → t ≡ drop 1 s → RunsEither l (readOp l width (depth - 1)) t c r →
+        RunsOp l (readOp l width depth) s c r
     unfolding readBody
     run-orelse t h u q o e = q o (rw u (rw (read-step l width depth s f, ← h) at e))
 
@@ -127,7 +136,9 @@ module _ (l : Limits) (reader : List ℕ → Option Op) (s c : List ℕ) where
           let v : k ≡ opSize p = cc in
           rest ∙ rw v
 
-      pub parts-more : (n : ℕ) (r : Came) → 0 < n → q .ok ≡ true → RunsParts l reader (n - 1) t (q .cells) r → RunsParts l reader n s c r
+      pub parts-more :
+          (n : ℕ) (r : Came) → 0 < n → q .ok ≡ true → RunsParts l reader (n - 1) t (q .cells) r →
+          RunsParts l reader n s c r
       unfolding run bind
       parts-more n r f h back qs e =
           let p = split-of reader n s qs f e in

@@ -1,16 +1,27 @@
 -- Laws of what the first bytes say: which tests give which kind, and what a kind says of the bytes. Assumes nothing.
 use Prim.Native.Nat.{ℕ, _+_, _≤_, _<_}
 use native.Mathlib.Omega.{arith}
-use mathlib.Core.Path.{_≡_, refl, sym, ap}
-use mathlib.Core.Bool.{Bool, true, false, not, _&&_}
+use mathlib.Core.Path.{_≡_, refl}
+use mathlib.Core.Bool.{false, not, _&&_}
 use mathlib.Core.List.{List}
 use lib.Dec.{ltb, leb, eqb}
 use lib.ListN.{length}
-use borrow.Author.Tests.{lt-ltb, le-ltb, le-leb, lt-leb, eq-eqb, ne-eqb, ltb-true, leb-true, eqb-true, eqb-false, not-true}
-use Rattle.basics.specs.Choice.{if_then_else_}
+use borrow.Author.Tests.{
+  lt-ltb,
+  le-ltb,
+  le-leb,
+  lt-leb,
+  eq-eqb,
+  ne-eqb,
+  ltb-true,
+  leb-true,
+  eqb-true,
+  eqb-false,
+  not-true,
+}
 use Rattle.basics.proofs.Choice.{by-cases, and-both}
 use Rattle.operation.specs.Limits.{Limits}
-use Rattle.operation.specs.FirstBytes.{byte, two, inRange, fieldsAt, plainOf, moveFrom, moveOf, atomicOf, kindOf}
+use Rattle.operation.specs.FirstBytes.{byte, two, fieldsAt, plainOf, moveFrom, moveOf, atomicOf, kindOf}
 use Rattle.operation.specs.declared.Plain.{Plain}
 use Rattle.operation.specs.declared.Plain.the-variants.{Need, Put, Draw, Move}
 use Rattle.operation.specs.declared.kind.Kind.{Kind}
@@ -146,7 +157,9 @@ module _ (l : Limits) (width : ℕ) (s : List ℕ) where
   fields-read at =
       by-cases (FieldsAre at) (leb (at + 3) (length s)) (λ long.
       by-cases (FieldsAre at)
-      (ltb (byte s at) width && (leb 1 (two (byte s (at + 1)) (byte s (at + 2))) && leb (two (byte s (at + 1)) (byte s (at + 2))) (l .amount)))
+      (ltb (byte s at)
+      width && (leb 1 (two (byte s (at + 1)) (byte s (at + 2))) && leb (two (byte s (at + 1)) (byte s (at + 2)))
+      (l .amount)))
       (λ h.
       let (cell, amount) = and-both _ _ h in
       let (least, most) = and-both _ _ amount in
@@ -161,11 +174,13 @@ module _ (l : Limits) (width : ℕ) (s : List ℕ) where
       (λ _. tt))
       (λ _. tt)
 
-  pub fields-are : (at cell amount : ℕ) → Of cell amount ≡ fieldsAt l width s at → FieldsRead l width s at cell amount
+  pub fields-are :
+      (at cell amount : ℕ) → Of cell amount ≡ fieldsAt l width s at → FieldsRead l width s at cell amount
   fields-are at cell amount e = rw (← e) at (fields-read at)
 
   plain-read :
-      (kind : ℕ → ℕ → Plain) → ((cell amount : ℕ) → FieldsRead l width s 1 cell amount → PlainRead (kind cell amount)) →
+      (kind : ℕ → ℕ → Plain) →
+      ((cell amount : ℕ) → FieldsRead l width s 1 cell amount → PlainRead (kind cell amount)) →
       (f : Fields) → FieldsAre 1 f → KindRead (plainOf kind f)
   plain-read kind says (Of cell amount) r = says cell amount r
   plain-read kind says Wrong r = tt
@@ -193,12 +208,17 @@ module _ (l : Limits) (width : ℕ) (s : List ℕ) where
   unfolding kindOf moveOf
   kind-read =
       by-cases KindRead (eqb (length s) 0) (λ _. tt) λ some.
-      by-cases KindRead (eqb (byte s 0) 0x01) (λ e. plain-read Need (λ k a r. (eqb-true _ _ e, r)) (fieldsAt l width s 1) (fields-read 1)) λ _.
-      by-cases KindRead (eqb (byte s 0) 0x02) (λ e. plain-read Put (λ k a r. (eqb-true _ _ e, r)) (fieldsAt l width s 1) (fields-read 1)) λ _.
-      by-cases KindRead (eqb (byte s 0) 0x03) (λ e. plain-read Draw (λ k a r. (eqb-true _ _ e, r)) (fieldsAt l width s 1) (fields-read 1)) λ _.
-      by-cases KindRead (eqb (byte s 0) 0x04) (λ e. move-read (eqb-true _ _ e) (fieldsAt l width s 2) (fields-read 2)) λ _.
+      by-cases KindRead (eqb (byte s 0) 0x01)
+      (λ e. plain-read Need (λ k a r. (eqb-true _ _ e, r)) (fieldsAt l width s 1) (fields-read 1)) λ _.
+      by-cases KindRead (eqb (byte s 0) 0x02)
+      (λ e. plain-read Put (λ k a r. (eqb-true _ _ e, r)) (fieldsAt l width s 1) (fields-read 1)) λ _.
+      by-cases KindRead (eqb (byte s 0) 0x03)
+      (λ e. plain-read Draw (λ k a r. (eqb-true _ _ e, r)) (fieldsAt l width s 1) (fields-read 1)) λ _.
+      by-cases KindRead (eqb (byte s 0) 0x04)
+      (λ e. move-read (eqb-true _ _ e) (fieldsAt l width s 2) (fields-read 2)) λ _.
       by-cases KindRead (eqb (byte s 0) 0x10) (λ e. atomic-read (eqb-true _ _ e)) λ _.
-      by-cases KindRead (eqb (byte s 0) 0x11) (λ e. let f : length s ≡ 0 → ⊥ = eqb-false _ _ some in (eqb-true _ _ e, omega arith)) λ _. tt
+      by-cases KindRead (eqb (byte s 0) 0x11) (λ e. let f : length s ≡ 0 → ⊥ =
+      eqb-false _ _ some in (eqb-true _ _ e, omega arith)) λ _. tt
 
   -- the same of a kind that is known
   pub kind-is : (k : Kind) → k ≡ kindOf l width s → KindRead k

@@ -1,7 +1,7 @@
 -- Laws of being an operation: which tests decide it, and what it is where they hold. Assumes nothing.
 use Prim.Native.Nat.{ℕ, _≤_, _<_}
 use native.Mathlib.Omega.{arith}
-use mathlib.Core.Path.{_≡_, refl, sym, _∙_}
+use mathlib.Core.Path.{_≡_, refl, _∙_}
 use mathlib.Core.Bool.{Bool, true, false, _&&_, false≢true}
 use mathlib.Core.List.{List}
 use mathlib.Core.Option.{Option, some, none}
@@ -40,7 +40,8 @@ module _ (l : Limits) (width : ℕ) (s : List ℕ) where
           go (some p) e = let z : _≡_ {A = ℕ} 0 1 = cc in absurd (omega arith)
           go none e = refl
 
-      pub by-size : (k : ℕ) → Bytes k ≡ sizeOf (readOp l width (l .depth) s) → eqb k (length s) ≡ wellFormed l width s
+      pub by-size :
+          (k : ℕ) → Bytes k ≡ sizeOf (readOp l width (l .depth) s) → eqb k (length s) ≡ wellFormed l width s
       unfolding wellFormed
       by-size k e = rw within (go (readOp l width (l .depth) s) e)
         where
@@ -62,14 +63,25 @@ pub record Formed (l : Limits) (width : ℕ) (s : List ℕ) (p : Op) : Type 0 wh
 module _ (l : Limits) (width : ℕ) (s : List ℕ) where
   pub formed : (p : Op) → operationOf l width s ≡ some p → Formed l width s p
   unfolding operationOf
-  formed p = by-cases (λ o. o ≡ some p → Formed l width s p) (leb width (l .cells) && leb (length s) (l .bytes)) (λ t. inside t (readOp l width (l .depth) s) refl) (λ _ e. none-some none p refl e)
+  formed p =
+      by-cases (λ o. o ≡ some p → Formed l width s p) (leb width (l .cells) && leb (length s) (l .bytes))
+      (λ t. inside t (readOp l width (l .depth) s) refl) (λ _ e. none-some none p refl e)
     where
-      inside : leb width (l .cells) && leb (length s) (l .bytes) ≡ true → (o : Option Op) → readOp l width (l .depth) s ≡ o → whole (length s) o ≡ some p → Formed l width s p
+      inside :
+          leb width (l .cells) && leb (length s) (l .bytes) ≡ true → (o : Option Op) →
+          readOp l width (l .depth) s ≡ o → whole (length s) o ≡ some p → Formed l width s p
       inside t (some q) i =
           by-cases (λ o. o ≡ some p → Formed l width s p) (eqb (opSize q) (length s))
           (λ u e.
           let v : q ≡ p = cc in
-          record { cells = leb-true width (l .cells) (and-both (leb width (l .cells)) (leb (length s) (l .bytes)) t .0); bytes = leb-true (length s) (l .bytes) (and-both (leb width (l .cells)) (leb (length s) (l .bytes)) t .1); is-read = i ∙ e; uses-all = rw v at (eqb-true (opSize q) (length s) u) })
+          record {
+            cells =
+                leb-true width (l .cells) (and-both (leb width (l .cells)) (leb (length s) (l .bytes)) t .0);
+            bytes =
+                leb-true (length s) (l .bytes) (and-both (leb width (l .cells)) (leb (length s) (l .bytes)) t .1);
+            is-read = i ∙ e;
+            uses-all = rw v at (eqb-true (opSize q) (length s) u);
+          })
           (λ _ e. none-some none p refl e)
       inside t none i = λ e. none-some none p refl e
 
@@ -78,7 +90,9 @@ module _ (l : Limits) (width : ℕ) (s : List ℕ) where
   unfolding wellFormed
   op-of h = go (operationOf l width s) refl h
     where
-      go : (o : Option Op) → operationOf l width s ≡ o → isSome o ≡ true → (p : Op) × (operationOf l width s ≡ some p)
+      go :
+          (o : Option Op) → operationOf l width s ≡ o → isSome o ≡ true →
+          (p : Op) × (operationOf l width s ≡ some p)
       go (some p) e h = (p, e)
       go none e h = absurd (false≢true h)
 

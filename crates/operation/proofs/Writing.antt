@@ -1,23 +1,23 @@
 -- Bytes that are an operation are the bytes of that operation, so equal bytes are equal operations and the other way round.
 -- Assumes nothing.
-use Prim.Native.Nat.{ℕ, zero, suc, _+_, _*_, _/_, _%_, _≤_, _<_}
+use Prim.Native.Nat.{ℕ, zero, suc, _+_, _/_, _%_, _≤_, _<_}
 use native.Mathlib.Numerals.{add-one}
 use native.Mathlib.Omega.{arith}
 use mathlib.Core.Path.{_≡_, refl, sym, ap, _∙_}
-use mathlib.Core.List.{List, [], _∷_, _++_}
-use mathlib.Core.Option.{Option, some, none}
+use mathlib.Core.List.{List, [], _∷_}
+use mathlib.Core.Option.{some}
 use lib.ListN.{length, getD, take, drop}
 use lib.Seq.{take-add, getD-drop, take-length, drop-cons}
 use Rattle.operation.specs.Limits.{Limits}
-use Rattle.operation.specs.FirstBytes.{byte, two, kindOf}
-use Rattle.operation.specs.Tree.{Op, Ops, plain, atomic, orelse, end, _then_, plainSize, opSize, opsSize}
-use Rattle.operation.specs.Reading.{readOp, operationOf}
+use Rattle.operation.specs.FirstBytes.{byte, two}
+use Rattle.operation.specs.Tree.{Op, Ops, plainSize, opSize, opsSize}
+use Rattle.operation.specs.Reading.{operationOf}
 use Rattle.operation.specs.Writing.{amountBytes, plainBytes, count, opBytes, opsBytes}
 use Rattle.operation.specs.declared.Plain.{Plain}
 use Rattle.operation.specs.declared.Plain.the-variants.{Need, Put, Draw, Move}
 use Rattle.operation.specs.declared.kind.Kind.the-variants.{One, Atomic, Orelse}
 use Rattle.operation.proofs.FirstBytes.{FieldsRead, PlainRead, kind-is}
-use Rattle.operation.proofs.Reading.{reads-op}
+use Rattle.operation.proofs.Reading.{ByKinds, reads-op}
 use Rattle.operation.proofs.WellFormed.{formed}
 
 -- every element is a byte
@@ -44,15 +44,22 @@ amount-bytes high low h =
     rw (d, m)
 
 module _ (l : Limits) (width : ℕ) (s : List ℕ) (b : Bytes s) where
-  amount-is : (at cell amount : ℕ) → FieldsRead l width s at cell amount → amountBytes amount ≡ byte s (at + 1) ∷ byte s (at + 2) ∷ []
-  amount-is at cell amount r = rw (r .amount-is) (amount-bytes (byte s (at + 1)) (byte s (at + 2)) (b .small (at + 2)))
+  amount-is :
+      (at cell amount : ℕ) → FieldsRead l width s at cell amount →
+      amountBytes amount ≡ byte s (at + 1) ∷ byte s (at + 2) ∷ []
+  amount-is at cell amount r =
+      rw (r .amount-is) (amount-bytes (byte s (at + 1)) (byte s (at + 2)) (b .small (at + 2)))
 
   plain-bytes : (p : Plain) → PlainRead l width s p → take (plainSize p) s ≡ plainBytes p
   unfolding bytesAt
-  plain-bytes (Need cell amount) r = one-by-one 0 4 s (r .1 .long) ∙ rw (r .0, amount-is 1 cell amount (r .1), r .1 .cell-is)
-  plain-bytes (Put cell amount) r = one-by-one 0 4 s (r .1 .long) ∙ rw (r .0, amount-is 1 cell amount (r .1), r .1 .cell-is)
-  plain-bytes (Draw cell amount) r = one-by-one 0 4 s (r .1 .long) ∙ rw (r .0, amount-is 1 cell amount (r .1), r .1 .cell-is)
-  plain-bytes (Move from to amount) r = one-by-one 0 5 s (r .1 .long) ∙ rw (r .0, amount-is 2 to amount (r .1), r .1 .cell-is, r .2)
+  plain-bytes (Need cell amount) r =
+      one-by-one 0 4 s (r .1 .long) ∙ rw (r .0, amount-is 1 cell amount (r .1), r .1 .cell-is)
+  plain-bytes (Put cell amount) r =
+      one-by-one 0 4 s (r .1 .long) ∙ rw (r .0, amount-is 1 cell amount (r .1), r .1 .cell-is)
+  plain-bytes (Draw cell amount) r =
+      one-by-one 0 4 s (r .1 .long) ∙ rw (r .0, amount-is 1 cell amount (r .1), r .1 .cell-is)
+  plain-bytes (Move from to amount) r =
+      one-by-one 0 5 s (r .1 .long) ∙ rw (r .0, amount-is 2 to amount (r .1), r .1 .cell-is, r .2)
 
 -- what is read begins with the bytes of what was read
 module _ (l : Limits) (width : ℕ) where
@@ -63,48 +70,50 @@ module _ (l : Limits) (width : ℕ) where
     counted : count ps ≡ n
     begins : Bytes s → take (opsSize ps) s ≡ opsBytes ps
 
-  on-plain : (d : ℕ) (s : List ℕ) (p : Plain) → One p ≡ kindOf l width s → Begins (suc d) s (plain p)
-  unfolding opSize opBytes
-  on-plain d s p h = record { begins = λ b. plain-bytes l width s b p (kind-is l width s (One p) h) }
-
-  on-atomic : (d n : ℕ) (s : List ℕ) (ps : Ops) → Atomic n ≡ kindOf l width s → AllBegin d n (drop 2 s) ps → Begins (suc d) s (atomic ps)
-  unfolding opSize opBytes bytesAt
-  on-atomic d n s ps h r = record {
-    begins = λ b.
-        let k = kind-is l width s (Atomic n) h in
-        take-add 2 (opsSize ps) s ∙ rw (one-by-one 0 2 s (k .1), r .begins (bytes-after 2 s b), k .0, r .counted, k .2);
-  }
-
-  on-orelse : (d : ℕ) (s : List ℕ) (p q : Op) → Orelse ≡ kindOf l width s → Begins d (drop 1 s) p → Begins d (drop (opSize p) (drop 1 s)) q → Begins (suc d) s (orelse p q)
-  unfolding opSize opBytes bytesAt
-  on-orelse d s p q h f g = record {
-    begins = λ b.
-        let k = kind-is l width s Orelse h in
-        let after = bytes-after 1 s b in
-        take-add 1 (opSize p + opSize q) s ∙
-        rw (one-by-one 0 1 s (k .1), take-add (opSize p) (opSize q) (drop 1 s), f .begins after, g .begins (bytes-after (opSize p) (drop 1 s) after), k .0);
-  }
-
-  on-end : (d : ℕ) (s : List ℕ) → AllBegin d 0 s end
-  unfolding opSize opBytes count
-  on-end d s = record { counted = refl; begins = λ b. refl }
-
-  on-then : (d n : ℕ) (s : List ℕ) (p : Op) (ps : Ops) → Begins d s p → AllBegin d n (drop (opSize p) s) ps → AllBegin d (suc n) s (p then ps)
-  unfolding opSize opBytes count
-  on-then d n s p ps f g = record {
-    counted = omega (arith, g .counted);
-    begins = λ b. take-add (opSize p) (opsSize ps) s ∙ rw (f .begins b, g .begins (bytes-after (opSize p) s b));
+  begin : ByKinds l width Begins AllBegin
+  unfolding opSize opBytes bytesAt count
+  begin = record {
+    on-plain = λ d s p h. record { begins = λ b. plain-bytes l width s b p (kind-is l width s (One p) h) };
+    on-atomic = λ d n s ps h r. record {
+      begins = λ b.
+          let k = kind-is l width s (Atomic n) h in
+          take-add 2 (opsSize ps) s ∙
+          rw (one-by-one 0 2 s (k .1), r .begins (bytes-after 2 s b), k .0, r .counted, k .2);
+    };
+    on-orelse = λ d s p q h f g. record {
+      begins = λ b.
+          let k = kind-is l width s Orelse h in
+          let after = bytes-after 1 s b in
+          take-add 1 (opSize p + opSize q) s ∙
+          rw (
+            one-by-one 0 1 s (k .1),
+            take-add (opSize p) (opSize q) (drop 1 s),
+            f .begins after,
+            g .begins
+                (bytes-after (opSize p) (drop 1 s) after),
+            k .0,
+          );
+    };
+    on-end = λ d s. record { counted = refl; begins = λ b. refl };
+    on-then = λ d n s p ps f g. record {
+      counted = ap suc (g .counted);
+      begins = λ b. take-add (opSize p) (opsSize ps) s ∙ rw (f .begins b, g .begins (bytes-after (opSize p) s b));
+    };
   }
 
   pub bytes-are : (s : List ℕ) (p : Op) → Bytes s → operationOf l width s ≡ some p → s ≡ opBytes p
   bytes-are s p b e =
       let f = formed l width s p e in
-      let r = reads-op l width Begins AllBegin on-plain on-atomic on-orelse on-end on-then (l .depth) s p (f .is-read) in
+      let r = reads-op l width Begins AllBegin begin (l .depth) s p
+      (f .is-read) in
       sym (take-length s) ∙ (rw (← (f .uses-all)) (r .begins b))
 
   -- equal bytes are equal operations, and equal operations are equal bytes
-  pub same-op : (s t : List ℕ) (p q : Op) → operationOf l width s ≡ some p → operationOf l width t ≡ some q → s ≡ t → p ≡ q
+  pub same-op :
+      (s t : List ℕ) (p q : Op) → operationOf l width s ≡ some p → operationOf l width t ≡ some q → s ≡ t → p ≡ q
   same-op s t p q e f h = let g : operationOf l width t ≡ some p = rw h at e in cc
 
-  pub same-bytes : (s t : List ℕ) (p q : Op) → Bytes s → Bytes t → operationOf l width s ≡ some p → operationOf l width t ≡ some q → p ≡ q → s ≡ t
+  pub same-bytes :
+      (s t : List ℕ) (p q : Op) → Bytes s → Bytes t → operationOf l width s ≡ some p →
+      operationOf l width t ≡ some q → p ≡ q → s ≡ t
   same-bytes s t p q b c e f h = bytes-are s p b e ∙ (ap opBytes h ∙ sym (bytes-are t q c f))

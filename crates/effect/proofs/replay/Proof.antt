@@ -24,7 +24,8 @@ array-copy-out-run-packed : tie.Need-array-copy-out-run-packed Inv-loop μ-loop
 array-copy-out-run-packed c = search needs
 
 run-packed-requires : tie.Need-run-packed-requires Inv-loop μ-loop
-run-packed-requires c κs = c .before .before .before .before .pre .sound (c .before .before .before .loop .i) (omega arith)
+run-packed-requires c κs =
+    c .before .before .before .before .pre .sound (c .before .before .before .loop .i) (omega arith)
 
 add-i : tie.Need-add-i Inv-loop μ-loop
 add-i c = search needs
@@ -35,8 +36,11 @@ loop-less c = omega arith
 loop-again : tie.Need-loop-again Inv-loop μ-loop
 loop-again c = let r = c .before .before .before .before .before in
     let loop = c .before .before .before .before .loop in
-    let there = r .pre .there in
-    (omega arith, replay-more limits (r .args .width) (r .args .t1) (r .args .cells .now) (loop .i) (loop .cells) _ _ (omega (arith, r .good .0 .1 .0 .1)) (loop .inv .1) (c .run-packed .ensures))
+    let there = r .pre .there in (
+      omega arith,
+      replay-more limits (r .args .width) (r .args .t1) (r .args .cells .now) (loop .i) (loop .cells) _
+          _ (omega (arith, r .good .0 .1 .0 .1)) (loop .inv .1) (c .run-packed .ensures),
+    )
 
 returns : tie.Need-returns Inv-loop μ-loop
 returns c = let loop = c .before .loop in

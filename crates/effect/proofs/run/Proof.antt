@@ -16,10 +16,18 @@ run-known-requires : tie.Need-run-known-requires
 run-known-requires c κs = sym (c .before .before .well-formed .ensures) ∙ not-false _ (c .before .if1 .left)
 
 returns-2 : tie.Need-returns-2
-returns-2 c = told-yes limits _ _ _ (sym (c .before .before .before .before .well-formed .ensures) ∙ not-false _ (c .before .before .before .if1 .left)) _ (c .before .run-known .ensures) (c .if2 .taken)
+returns-2 c =
+    told-yes limits _ _ _
+    (sym (c .before .before .before .before .well-formed .ensures) ∙ not-false _
+    (c .before .before .before .if1 .left))
+    _ (c .before .run-known .ensures) (c .if2 .taken)
 
 returns-3 : tie.Need-returns-3
-returns-3 c = told-no limits _ _ _ (sym (c .before .before .before .before .well-formed .ensures) ∙ not-false _ (c .before .before .before .if1 .left)) _ (c .before .run-known .ensures) (c .if2 .left)
+returns-3 c =
+    told-no limits _ _ _
+    (sym (c .before .before .before .before .well-formed .ensures) ∙ not-false _
+    (c .before .before .before .if1 .left))
+    _ (c .before .run-known .ensures) (c .if2 .left)
 
 pub run-spec : {M : Type 1} → statement M
 run-spec = tie.close (tie.spec well-formed-requires returns run-known-requires returns-2 returns-3)

@@ -9,7 +9,9 @@ array-share-prefix-bytes : tie.Need-array-share-prefix-bytes
 array-share-prefix-bytes c = search needs
 
 slice-aggregate-run-known : tie.Need-slice-aggregate-run-known
-slice-aggregate-run-known c = let a = c .before in sym (length-take-le (a .args .len) (a .args .t1) (omega (arith, a .pre .0, a .good .0 .1 .0 .1)))
+slice-aggregate-run-known c =
+    let a = c .before in
+    sym (length-take-le (a .args .len) (a .args .t1) (omega (arith, a .pre .0, a .good .0 .1 .0 .1)))
 
 run-known-requires : tie.Need-run-known-requires
 run-known-requires c κs = search needs

@@ -8,7 +8,9 @@ operation-requires c κs = let r = c .before .before in
     cells-there limits (r .args .width) (r .args .s .now) (r .args .cells .now) (r .pre)
 
 returns : tie.Need-returns
-returns c = let r = c .before .before .before in walked limits (r .args .width) (r .args .s .now) (r .args .cells .now) (r .pre) _ (c .operation .ensures)
+returns c =
+    let r = c .before .before .before in
+    walked limits (r .args .width) (r .args .s .now) (r .args .cells .now) (r .pre) _ (c .operation .ensures)
 
 pub run-known-spec : {M : Type 1} → statement M
 run-known-spec = tie.close (tie.spec operation-requires returns)

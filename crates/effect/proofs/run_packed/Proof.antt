@@ -7,7 +7,9 @@ index-requires : tie.Need-index-requires
 index-requires c κs = search needs
 
 run-front-requires : tie.Need-run-front-requires
-run-front-requires c κs = let r = c .before .before .before in (omega (arith, r .pre .fits), rw (c .before .index .ensures) (r .pre .formed))
+run-front-requires c κs =
+    let r = c .before .before .before in
+    (omega (arith, r .pre .fits), rw (c .before .index .ensures) (r .pre .formed))
 
 returns : tie.Need-returns
 returns c = rw (c .before .before .index .ensures) at (c .run-front .ensures)

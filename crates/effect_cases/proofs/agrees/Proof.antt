@@ -21,7 +21,8 @@ sub-answer : tie.Need-sub-answer
 sub-answer c = search needs
 
 slice-aggregate-answer : tie.Need-slice-aggregate-answer
-slice-aggregate-answer c = sym (length-take-le _ (c .before .before .before .before .before .args .line .now) (omega arith))
+slice-aggregate-answer c =
+    sym (length-take-le _ (c .before .before .before .before .before .args .line .now) (omega arith))
 
 slice-aggregate-answer-2 : tie.Need-slice-aggregate-answer-2
 slice-aggregate-answer-2 c = search needs

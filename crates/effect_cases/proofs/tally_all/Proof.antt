@@ -5,7 +5,8 @@ use Rattle.effect_cases.proofs.tally_all.Statement.{statement}
 use Rattle.effect_cases.proofs.tally_all.Tie as tie
 
 abbrev Inv-loop : tie.InvT-loop
-Inv-loop name text lines₀ agree₀ at₀ t7 t8 t9 lines agree at = (at ≤ length text + 1) × ((agree ≤ lines) × (lines ≤ at))
+Inv-loop name text lines₀ agree₀ at₀ t7 t8 t9 lines agree at =
+    (at ≤ length text + 1) × ((agree ≤ lines) × (lines ≤ at))
 
 abbrev μ-loop : tie.MeasureT-loop
 μ-loop name text lines₀ agree₀ at₀ t7 t8 t9 lines agree at = length text + 1 - at

@@ -23,7 +23,8 @@ array-share-prefix-out : tie.Need-array-share-prefix-out
 array-share-prefix-out c = search needs
 
 slice-aggregate-write-all-2 : tie.Need-slice-aggregate-write-all-2
-slice-aggregate-write-all-2 c = sym (length-take-le _ _ (c .before .before .before .before .before .answer .ensures))
+slice-aggregate-write-all-2 c =
+    sym (length-take-le _ _ (c .before .before .before .before .before .answer .ensures))
 
 write-all-requires-3 : tie.Need-write-all-requires-3
 write-all-requires-3 c κs = search needs

@@ -21,7 +21,8 @@ returns : tie.Need-returns
 returns c = search needs
 
 slice-aggregate-read : tie.Need-slice-aggregate-read
-slice-aggregate-read c = sym (length-take-le _ (c .before .before .before .before .before .args .line .now) (omega arith))
+slice-aggregate-read c =
+    sym (length-take-le _ (c .before .before .before .before .before .args .line .now) (omega arith))
 
 read-requires : tie.Need-read-requires
 read-requires c κs = search needs

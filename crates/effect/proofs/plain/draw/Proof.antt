@@ -21,10 +21,14 @@ element-write-cells : tie.Need-element-write-cells
 element-write-cells c = search needs
 
 returns : tie.Need-returns
-returns c = let a = c .before .before .before .args in rw (draw-yes limits (a .cells .now) (a .cell) (a .amount) (omega arith)) (cc)
+returns c =
+    let a = c .before .before .before .args in
+    rw (draw-yes limits (a .cells .now) (a .cell) (a .amount) (omega arith)) (cc)
 
 returns-2 : tie.Need-returns-2
-returns-2 c = let a = c .before .before .before .args in rw (draw-no limits (a .cells .now) (a .cell) (a .amount) (omega arith))
+returns-2 c =
+    let a = c .before .before .before .args in
+    rw (draw-no limits (a .cells .now) (a .cell) (a .amount) (omega arith))
 
 pub draw-spec : {M : Type 1} → statement M
 draw-spec =

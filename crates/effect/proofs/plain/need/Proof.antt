@@ -15,10 +15,14 @@ element-copy-out-if1 : tie.Need-element-copy-out-if1
 element-copy-out-if1 c = search needs
 
 returns : tie.Need-returns
-returns c = let a = c .before .before .before .args in rw (need-yes limits (a .cells .now) (a .cell) (a .amount) (omega arith))
+returns c =
+    let a = c .before .before .before .args in
+    rw (need-yes limits (a .cells .now) (a .cell) (a .amount) (omega arith))
 
 returns-2 : tie.Need-returns-2
-returns-2 c = let a = c .before .before .before .args in rw (need-no limits (a .cells .now) (a .cell) (a .amount) (omega arith))
+returns-2 c =
+    let a = c .before .before .before .args in
+    rw (need-no limits (a .cells .now) (a .cell) (a .amount) (omega arith))
 
 pub need-spec : {M : Type 1} → statement M
 need-spec = tie.close (tie.spec wide-requires mul-if1 element-copy-out-if1 returns returns-2)

@@ -27,10 +27,14 @@ element-write-cells : tie.Need-element-write-cells
 element-write-cells c = search needs
 
 returns : tie.Need-returns
-returns c = let a = c .before .before .before .args in rw (put-yes limits (a .cells .now) (a .cell) (a .amount) (omega arith)) (cc)
+returns c =
+    let a = c .before .before .before .args in
+    rw (put-yes limits (a .cells .now) (a .cell) (a .amount) (omega arith)) (cc)
 
 returns-2 : tie.Need-returns-2
-returns-2 c = let a = c .before .before .before .args in rw (put-no limits (a .cells .now) (a .cell) (a .amount) (omega arith))
+returns-2 c =
+    let a = c .before .before .before .args in
+    rw (put-no limits (a .cells .now) (a .cell) (a .amount) (omega arith))
 
 pub put-spec : {M : Type 1} → statement M
 put-spec =

@@ -21,13 +21,17 @@ element-copy-out-here : tie.Need-element-copy-out-here
 element-copy-out-here c = search needs
 
 returns : tie.Need-returns
-returns c = let a = c .before .before .before .before .args in rw (move-short limits (a .cells .now) (a .from) (a .to) (a .amount) (omega arith))
+returns c =
+    let a = c .before .before .before .before .args in
+    rw (move-short limits (a .cells .now) (a .from) (a .to) (a .amount) (omega arith))
 
 sub-if2 : tie.Need-sub-if2
 sub-if2 c = search needs
 
 returns-2 : tie.Need-returns-2
-returns-2 c = let a = c .before .before .before .before .before .args in rw (move-full limits (a .cells .now) (a .from) (a .to) (a .amount) (omega arith) (omega arith))
+returns-2 c =
+    let a = c .before .before .before .before .before .args in
+    rw (move-full limits (a .cells .now) (a .from) (a .to) (a .amount) (omega arith) (omega arith))
 
 mul-cells : tie.Need-mul-cells
 mul-cells c = search needs
@@ -45,7 +49,9 @@ element-write-cells-2 : tie.Need-element-write-cells-2
 element-write-cells-2 c = search needs
 
 returns-3 : tie.Need-returns-3
-returns-3 c = let a = c .before .before .before .before .before .args in rw (move-yes limits (a .cells .now) (a .from) (a .to) (a .amount) (omega arith) (omega arith)) (cc)
+returns-3 c =
+    let a = c .before .before .before .before .before .args in
+    rw (move-yes limits (a .cells .now) (a .from) (a .to) (a .amount) (omega arith) (omega arith)) (cc)
 
 pub shift-spec : {M : Type 1} → statement M
 shift-spec =

@@ -1,10 +1,26 @@
-use Rattle.effect.proofs.Walking.{kind-inside, run-zero, run-malformed, run-one, run-atomic, run-orelse, atomic-yes, atomic-no, parts-zero, parts-none, parts-stop, parts-more, either-none, either-first, either-second}
+use Rattle.effect.proofs.Walking.{
+  kind-inside,
+  run-zero,
+  run-malformed,
+  run-one,
+  run-atomic,
+  run-orelse,
+  atomic-yes,
+  atomic-no,
+  parts-zero,
+  parts-none,
+  parts-stop,
+  parts-more,
+  either-none,
+  either-first,
+  either-second,
+}
 use Rattle.operation.specs.Limits.{limits}
 use borrow.Author.Tests.{not-true, not-false}
 use mathlib.Core.Path.{refl}
 use native.Mathlib.Omega.{arith}
 use borrow.Author.Needs.{needs}
-use Prim.Native.Nat.{ℕ, _+_, _*_, _-_, _<_}
+use Prim.Native.Nat.{ℕ, _+_, _*_, _<_}
 use borrow.Fn.Kinds.{In}
 use borrow.Fn.PlainCycle.{Measures, is, falls, and}
 use Rattle.effect.proofs.walk.atomic.Reads as atomic
@@ -69,13 +85,40 @@ abbrev atomic-calls : ℕ → atomic-lts.Claims
 atomic-calls t = (parts-below t, parts.Post, put-back-reads.Asked, put-back-reads.Learnt)
 
 abbrev either-calls : ℕ → either-lts.Claims
-either-calls t = (operation-below t, operation.Post, operation-reads.Asked, operation-reads.Learnt, after-reads.Asked, after-reads.Learnt)
+either-calls t = (
+  operation-below t,
+  operation.Post,
+  operation-reads.Asked,
+  operation-reads.Learnt,
+  after-reads.Asked,
+  after-reads.Learnt,
+)
 
 abbrev operation-calls : ℕ → operation-lts.Claims
-operation-calls t = (read-reads.Asked, read-reads.Learnt, apply-reads.Asked, apply-reads.Learnt, after-reads.Asked, after-reads.Learnt, atomic-below t, atomic.Post, either-below t, either.Post)
+operation-calls t = (
+  read-reads.Asked,
+  read-reads.Learnt,
+  apply-reads.Asked,
+  apply-reads.Learnt,
+  after-reads.Asked,
+  after-reads.Learnt,
+  atomic-below t,
+  atomic.Post,
+  either-below t,
+  either.Post,
+)
 
 abbrev parts-calls : ℕ → parts-lts.Claims
-parts-calls t = (operation-below t, operation.Post, operation-reads.Asked, operation-reads.Learnt, after-reads.Asked, after-reads.Learnt, parts-below t, parts.Post)
+parts-calls t = (
+  operation-below t,
+  operation.Post,
+  operation-reads.Asked,
+  operation-reads.Learnt,
+  after-reads.Asked,
+  after-reads.Learnt,
+  parts-below t,
+  parts.Post,
+)
 
 atomic-parts-requires :
     (t : ℕ) → atomic-lts.Need-parts-requires (atomic-calls t) (atomic-at t) atomic.Post
@@ -101,7 +144,8 @@ either-operation-requires t c κs = search needs
 either-returns : (t : ℕ) → either-lts.Need-returns (either-calls t) (either-at t) either.Post
 either-returns t c = either-first limits _ _ _ _ (c .before .operation .ensures) (c .if1 .taken)
 
-either-operation-requires-2 : (t : ℕ) → either-lts.Need-operation-requires-2 (either-calls t) (either-at t) either.Post
+either-operation-requires-2 :
+    (t : ℕ) → either-lts.Need-operation-requires-2 (either-calls t) (either-at t) either.Post
 either-operation-requires-2 t c κs = search needs
 
 either-enum-known-k : (t : ℕ) → either-lts.Need-enum-known-k (either-calls t) (either-at t) either.Post
@@ -110,14 +154,19 @@ either-enum-known-k t c = search needs
 either-after-requires : (t : ℕ) → either-lts.Need-after-requires (either-calls t) (either-at t) either.Post
 either-after-requires t c κs = search needs
 
-either-operation-requires-3 : (t : ℕ) → either-lts.Need-operation-requires-3 (either-calls t) (either-at t) either.Post
+either-operation-requires-3 :
+    (t : ℕ) → either-lts.Need-operation-requires-3 (either-calls t) (either-at t) either.Post
 either-operation-requires-3 t c κs = search needs
 
 either-enum-told : (t : ℕ) → either-lts.Need-enum-told (either-calls t) (either-at t) either.Post
 either-enum-told t c = search needs
 
 either-returns-2 : (t : ℕ) → either-lts.Need-returns-2 (either-calls t) (either-at t) either.Post
-either-returns-2 t c = either-second limits _ _ _ _ (c .before .before .before .before .before .before .before .before .operation .ensures) (c .before .before .before .before .k .given .0 .0) _ (cc) (c .before .before .after .ensures) _ (c .before .before .before .before .before .before .before .if1 .left) (c .operation3 .ensures)
+either-returns-2 t c =
+    either-second limits _ _ _ _
+    (c .before .before .before .before .before .before .before .before .operation .ensures)
+    (c .before .before .before .before .k .given .0 .0) _ (cc) (c .before .before .after .ensures) _
+    (c .before .before .before .before .before .before .before .if1 .left) (c .operation3 .ensures)
 
 either-returns-3 : (t : ℕ) → either-lts.Need-returns-3 (either-calls t) (either-at t) either.Post
 either-returns-3 t c = either-none limits _ _ _ (cc) _
@@ -125,51 +174,64 @@ either-returns-3 t c = either-none limits _ _ _ (cc) _
 operation-returns : (t : ℕ) → operation-lts.Need-returns (operation-calls t) (operation-at t) operation.Post
 operation-returns t c = run-zero limits _ _ _ _ _ (omega arith)
 
-operation-read-requires : (t : ℕ) → operation-lts.Need-read-requires (operation-calls t) (operation-at t) operation.Post
+operation-read-requires :
+    (t : ℕ) → operation-lts.Need-read-requires (operation-calls t) (operation-at t) operation.Post
 operation-read-requires t c κs = search needs
 
-operation-enum-known-p : (t : ℕ) → operation-lts.Need-enum-known-p (operation-calls t) (operation-at t) operation.Post
+operation-enum-known-p :
+    (t : ℕ) → operation-lts.Need-enum-known-p (operation-calls t) (operation-at t) operation.Post
 operation-enum-known-p t c = search needs
 
-operation-apply-requires : (t : ℕ) → operation-lts.Need-apply-requires (operation-calls t) (operation-at t) operation.Post
+operation-apply-requires :
+    (t : ℕ) → operation-lts.Need-apply-requires (operation-calls t) (operation-at t) operation.Post
 operation-apply-requires t c κs = let r = c .before .before .before .before .before .before .before in
-    kind-inside limits (r .args .width) (limits .cells) (r .args .s .now) (c .before .before .p .given .0 .0) (omega arith) (cc)
+    kind-inside limits (r .args .width) (limits .cells) (r .args .s .now) (c .before .before .p .given .0 .0)
+    (omega arith) (cc)
 
-operation-enum-known-n : (t : ℕ) → operation-lts.Need-enum-known-n (operation-calls t) (operation-at t) operation.Post
+operation-enum-known-n :
+    (t : ℕ) → operation-lts.Need-enum-known-n (operation-calls t) (operation-at t) operation.Post
 operation-enum-known-n t c = search needs
 
-operation-after-requires : (t : ℕ) → operation-lts.Need-after-requires (operation-calls t) (operation-at t) operation.Post
+operation-after-requires :
+    (t : ℕ) → operation-lts.Need-after-requires (operation-calls t) (operation-at t) operation.Post
 operation-after-requires t c κs = search needs
 
 operation-sub-atomic : (t : ℕ) → operation-lts.Need-sub-atomic (operation-calls t) (operation-at t) operation.Post
 operation-sub-atomic t c = search needs
 
-operation-atomic-requires : (t : ℕ) → operation-lts.Need-atomic-requires (operation-calls t) (operation-at t) operation.Post
+operation-atomic-requires :
+    (t : ℕ) → operation-lts.Need-atomic-requires (operation-calls t) (operation-at t) operation.Post
 operation-atomic-requires t c κs = search needs
 
 operation-enum-told : (t : ℕ) → operation-lts.Need-enum-told (operation-calls t) (operation-at t) operation.Post
 operation-enum-told t c = search needs
 
-operation-after-requires-2 : (t : ℕ) → operation-lts.Need-after-requires-2 (operation-calls t) (operation-at t) operation.Post
+operation-after-requires-2 :
+    (t : ℕ) → operation-lts.Need-after-requires-2 (operation-calls t) (operation-at t) operation.Post
 operation-after-requires-2 t c κs = search needs
 
 operation-sub-either : (t : ℕ) → operation-lts.Need-sub-either (operation-calls t) (operation-at t) operation.Post
 operation-sub-either t c = search needs
 
-operation-either-requires : (t : ℕ) → operation-lts.Need-either-requires (operation-calls t) (operation-at t) operation.Post
+operation-either-requires :
+    (t : ℕ) → operation-lts.Need-either-requires (operation-calls t) (operation-at t) operation.Post
 operation-either-requires t c κs = search needs
 
 operation-enum-told-2 : (t : ℕ) → operation-lts.Need-enum-told-2 (operation-calls t) (operation-at t) operation.Post
 operation-enum-told-2 t c = search needs
 
 operation-returns-2 : (t : ℕ) → operation-lts.Need-returns-2 (operation-calls t) (operation-at t) operation.Post
-operation-returns-2 t c = run-one limits _ _ _ _ _ (omega arith) (c .before .before .before .p .given .0 .0) (cc) (c .apply .ensures)
+operation-returns-2 t c =
+    run-one limits _ _ _ _ _ (omega arith) (c .before .before .before .p .given .0 .0) (cc) (c .apply .ensures)
 
 operation-returns-3 : (t : ℕ) → operation-lts.Need-returns-3 (operation-calls t) (operation-at t) operation.Post
-operation-returns-3 t c = run-atomic limits _ _ _ _ _ (omega arith) (c .before .before .before .before .n .given .0 .0) _ (cc) (c .before .before .after .ensures) (c .atomic .ensures)
+operation-returns-3 t c =
+    run-atomic limits _ _ _ _ _ (omega arith) (c .before .before .before .before .n .given .0 .0) _ (cc)
+    (c .before .before .after .ensures) (c .atomic .ensures)
 
 operation-returns-4 : (t : ℕ) → operation-lts.Need-returns-4 (operation-calls t) (operation-at t) operation.Post
-operation-returns-4 t c = run-orelse limits _ _ _ _ _ (omega arith) _ (cc) (c .before .before .after2 .ensures) (c .either .ensures)
+operation-returns-4 t c =
+    run-orelse limits _ _ _ _ _ (omega arith) _ (cc) (c .before .before .after2 .ensures) (c .either .ensures)
 
 operation-returns-5 : (t : ℕ) → operation-lts.Need-returns-5 (operation-calls t) (operation-at t) operation.Post
 operation-returns-5 t c = run-malformed limits _ _ _ _ _ (omega arith) (cc)
@@ -181,7 +243,9 @@ parts-operation-requires : (t : ℕ) → parts-lts.Need-operation-requires (part
 parts-operation-requires t c κs = search needs
 
 parts-returns-2 : (t : ℕ) → parts-lts.Need-returns-2 (parts-calls t) (parts-at t) parts.Post
-parts-returns-2 t c = parts-stop limits _ _ _ _ (c .before .before .operation .ensures) _ _ (omega arith) (not-true _ (c .if2 .taken)) refl
+parts-returns-2 t c =
+    parts-stop limits _ _ _ _ (c .before .before .operation .ensures) _ _ (omega arith) (not-true _ (c .if2 .taken))
+    refl
 
 parts-operation-requires-2 : (t : ℕ) → parts-lts.Need-operation-requires-2 (parts-calls t) (parts-at t) parts.Post
 parts-operation-requires-2 t c κs = search needs
@@ -202,7 +266,11 @@ parts-enum-told : (t : ℕ) → parts-lts.Need-enum-told (parts-calls t) (parts-
 parts-enum-told t c = search needs
 
 parts-returns-3 : (t : ℕ) → parts-lts.Need-returns-3 (parts-calls t) (parts-at t) parts.Post
-parts-returns-3 t c = parts-more limits _ _ _ _ (c .before .before .before .before .before .before .before .before .before .operation .ensures) (c .before .before .before .before .k .given .0 .0) _ (cc) (c .before .before .after .ensures) _ _ (omega arith) (not-false _ (c .before .before .before .before .before .before .before .if2 .left)) (c .parts .ensures)
+parts-returns-3 t c =
+    parts-more limits _ _ _ _
+    (c .before .before .before .before .before .before .before .before .before .operation .ensures)
+    (c .before .before .before .before .k .given .0 .0) _ (cc) (c .before .before .after .ensures) _ _ (omega arith)
+    (not-false _ (c .before .before .before .before .before .before .before .if2 .left)) (c .parts .ensures)
 
 parts-returns-4 : (t : ℕ) → parts-lts.Need-returns-4 (parts-calls t) (parts-at t) parts.Post
 parts-returns-4 t c = parts-none limits _ _ _ (cc) _ _ (omega arith)

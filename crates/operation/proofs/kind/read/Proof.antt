@@ -1,5 +1,14 @@
 use Rattle.operation.specs.declared.kind.Fields.the-variants.{Of, Wrong}
-use Rattle.operation.proofs.FirstBytes.{kind-none, kind-need, kind-put, kind-draw, kind-move, kind-atomic, kind-orelse, kind-other}
+use Rattle.operation.proofs.FirstBytes.{
+  kind-none,
+  kind-need,
+  kind-put,
+  kind-draw,
+  kind-move,
+  kind-atomic,
+  kind-orelse,
+  kind-other,
+}
 use Rattle.operation.specs.Limits.{limits}
 use native.Mathlib.Omega.{arith}
 use borrow.Author.Needs.{needs}
@@ -74,7 +83,8 @@ returns-10 c = kind-orelse limits _ _ (omega arith) (omega arith)
 
 returns-11 : tie.Need-returns-11
 returns-11 c = let r = c .match .rest in
-    kind-other limits _ _ (omega arith) (r .0 .0 .0 .0 .0 .1) (r .0 .0 .0 .0 .1) (r .0 .0 .0 .1) (r .0 .0 .1) (r .0 .1) (r .1)
+    kind-other limits _ _ (omega arith) (r .0 .0 .0 .0 .0 .1) (r .0 .0 .0 .0 .1) (r .0 .0 .0 .1) (r .0 .0 .1)
+    (r .0 .1) (r .1)
 
 pub read-spec : {M : Type 1} → statement M
 read-spec =

@@ -39,10 +39,14 @@ returns-3 : tie.Need-returns-3
 returns-3 c = fields-low limits _ _ _ (omega arith) (omega arith) _ (c .before .two .ensures) (omega arith)
 
 returns-4 : tie.Need-returns-4
-returns-4 c = fields-high limits _ _ _ (omega arith) (omega arith) _ (c .before .before .two .ensures) (omega arith) (omega arith)
+returns-4 c =
+    fields-high limits _ _ _ (omega arith) (omega arith) _ (c .before .before .two .ensures) (omega arith)
+    (omega arith)
 
 returns-5 : tie.Need-returns-5
-returns-5 c = fields-of limits _ _ _ (omega arith) (omega arith) _ (c .before .before .two .ensures) (omega arith) (omega arith)
+returns-5 c =
+    fields-of limits _ _ _ (omega arith) (omega arith) _ (c .before .before .two .ensures) (omega arith)
+    (omega arith)
 
 pub read-fields-spec : {M : Type 1} → statement M
 read-fields-spec =

@@ -1,5 +1,15 @@
-use Rattle.operation.proofs.Sizes.{size-zero, size-one, size-atomic, size-orelse, size-malformed, sizes-zero, sizes-none, sizes-more, size-fits, room}
-use Rattle.operation.specs.Reading.{readOp}
+use Rattle.operation.proofs.Sizes.{
+  size-zero,
+  size-one,
+  size-atomic,
+  size-orelse,
+  size-malformed,
+  sizes-zero,
+  sizes-none,
+  sizes-more,
+  size-fits,
+  room,
+}
 use Rattle.operation.specs.Limits.{limits}
 use lib.ListN.{drop, length-drop}
 use mathlib.Core.Path.{_∙_}
@@ -42,67 +52,102 @@ parts-below t = and 1 parts-kinds.ps (falls 1 parts-kinds.ps _<_ μ-parts t) par
 
 -- what each member is told of those that it calls
 abbrev operation-calls : ℕ → operation-lts.Claims
-operation-calls t = (read-reads.Asked, read-reads.Learnt, plain-reads.Asked, plain-reads.Learnt, after-reads.Asked, after-reads.Learnt, parts-below t, parts.Post, more-reads.Asked, more-reads.Learnt)
+operation-calls t = (
+  read-reads.Asked,
+  read-reads.Learnt,
+  plain-reads.Asked,
+  plain-reads.Learnt,
+  after-reads.Asked,
+  after-reads.Learnt,
+  parts-below t,
+  parts.Post,
+  more-reads.Asked,
+  more-reads.Learnt,
+)
 
 abbrev parts-calls : ℕ → parts-lts.Claims
-parts-calls t = (operation-below t, operation.Post, after-reads.Asked, after-reads.Learnt, parts-below t, parts.Post, more-reads.Asked, more-reads.Learnt)
+parts-calls t = (
+  operation-below t,
+  operation.Post,
+  after-reads.Asked,
+  after-reads.Learnt,
+  parts-below t,
+  parts.Post,
+  more-reads.Asked,
+  more-reads.Learnt,
+)
 
 operation-returns : (t : ℕ) → operation-lts.Need-returns (operation-calls t) (operation-at t) operation.Post
 operation-returns t c = size-zero limits _ _ _ (omega arith)
 
-operation-read-requires : (t : ℕ) → operation-lts.Need-read-requires (operation-calls t) (operation-at t) operation.Post
+operation-read-requires :
+    (t : ℕ) → operation-lts.Need-read-requires (operation-calls t) (operation-at t) operation.Post
 operation-read-requires t c κs = search needs
 
-operation-enum-known-p : (t : ℕ) → operation-lts.Need-enum-known-p (operation-calls t) (operation-at t) operation.Post
+operation-enum-known-p :
+    (t : ℕ) → operation-lts.Need-enum-known-p (operation-calls t) (operation-at t) operation.Post
 operation-enum-known-p t c = search needs
 
-operation-plain-requires : (t : ℕ) → operation-lts.Need-plain-requires (operation-calls t) (operation-at t) operation.Post
+operation-plain-requires :
+    (t : ℕ) → operation-lts.Need-plain-requires (operation-calls t) (operation-at t) operation.Post
 operation-plain-requires t c κs = search needs
 
-operation-enum-known-n : (t : ℕ) → operation-lts.Need-enum-known-n (operation-calls t) (operation-at t) operation.Post
+operation-enum-known-n :
+    (t : ℕ) → operation-lts.Need-enum-known-n (operation-calls t) (operation-at t) operation.Post
 operation-enum-known-n t c = search needs
 
-operation-after-requires : (t : ℕ) → operation-lts.Need-after-requires (operation-calls t) (operation-at t) operation.Post
+operation-after-requires :
+    (t : ℕ) → operation-lts.Need-after-requires (operation-calls t) (operation-at t) operation.Post
 operation-after-requires t c κs = search needs
 
 operation-sub-parts : (t : ℕ) → operation-lts.Need-sub-parts (operation-calls t) (operation-at t) operation.Post
 operation-sub-parts t c = search needs
 
-operation-parts-requires : (t : ℕ) → operation-lts.Need-parts-requires (operation-calls t) (operation-at t) operation.Post
+operation-parts-requires :
+    (t : ℕ) → operation-lts.Need-parts-requires (operation-calls t) (operation-at t) operation.Post
 operation-parts-requires t c κs = search needs
 
-operation-more-requires : (t : ℕ) → operation-lts.Need-more-requires (operation-calls t) (operation-at t) operation.Post
+operation-more-requires :
+    (t : ℕ) → operation-lts.Need-more-requires (operation-calls t) (operation-at t) operation.Post
 operation-more-requires t c κs = let a = c .before .before .before .before .before .before .before .before .args in
-    room limits (a .width) (a .depth - 1) (c .before .before .before .n .given .0 .0) 2 (drop 2 (a .s .now)) (c .parts .result) (cc) (simp length-drop (omega arith))
+    room limits (a .width) (a .depth - 1) (c .before .before .before .n .given .0 .0) 2 (drop 2 (a .s .now))
+    (c .parts .result) (cc) (simp length-drop (omega arith))
 
 operation-enum-told : (t : ℕ) → operation-lts.Need-enum-told (operation-calls t) (operation-at t) operation.Post
 operation-enum-told t c = search needs
 
-operation-after-requires-2 : (t : ℕ) → operation-lts.Need-after-requires-2 (operation-calls t) (operation-at t) operation.Post
+operation-after-requires-2 :
+    (t : ℕ) → operation-lts.Need-after-requires-2 (operation-calls t) (operation-at t) operation.Post
 operation-after-requires-2 t c κs = search needs
 
 operation-sub-parts-2 : (t : ℕ) → operation-lts.Need-sub-parts-2 (operation-calls t) (operation-at t) operation.Post
 operation-sub-parts-2 t c = search needs
 
-operation-parts-requires-2 : (t : ℕ) → operation-lts.Need-parts-requires-2 (operation-calls t) (operation-at t) operation.Post
+operation-parts-requires-2 :
+    (t : ℕ) → operation-lts.Need-parts-requires-2 (operation-calls t) (operation-at t) operation.Post
 operation-parts-requires-2 t c κs = search needs
 
-operation-more-requires-2 : (t : ℕ) → operation-lts.Need-more-requires-2 (operation-calls t) (operation-at t) operation.Post
+operation-more-requires-2 :
+    (t : ℕ) → operation-lts.Need-more-requires-2 (operation-calls t) (operation-at t) operation.Post
 operation-more-requires-2 t c κs = let a = c .before .before .before .before .before .before .before .args in
-    room limits (a .width) (a .depth - 1) 2 1 (drop 1 (a .s .now)) (c .parts2 .result) (cc) (simp length-drop (omega arith))
+    room limits (a .width) (a .depth - 1) 2 1 (drop 1 (a .s .now)) (c .parts2 .result) (cc)
+    (simp length-drop (omega arith))
 
 operation-enum-told-2 : (t : ℕ) → operation-lts.Need-enum-told-2 (operation-calls t) (operation-at t) operation.Post
 operation-enum-told-2 t c = search needs
 
 operation-returns-2 : (t : ℕ) → operation-lts.Need-returns-2 (operation-calls t) (operation-at t) operation.Post
-operation-returns-2 t c = size-one limits _ _ _ (omega arith) (c .before .before .p .given .0 .0) _ (cc) (c .plain .ensures)
+operation-returns-2 t c =
+    size-one limits _ _ _ (omega arith) (c .before .before .p .given .0 .0) _ (cc) (c .plain .ensures)
 
 operation-returns-3 : (t : ℕ) → operation-lts.Need-returns-3 (operation-calls t) (operation-at t) operation.Post
 operation-returns-3 t c = c .more .ensures ∙
-    size-atomic limits _ _ _ (omega arith) (c .before .before .before .before .n .given .0 .0) (c .before .parts .result) (cc) (cc)
+    size-atomic limits _ _ _ (omega arith) (c .before .before .before .before .n .given .0 .0)
+    (c .before .parts .result) (cc) (cc)
 
 operation-returns-4 : (t : ℕ) → operation-lts.Need-returns-4 (operation-calls t) (operation-at t) operation.Post
-operation-returns-4 t c = c .more2 .ensures ∙ size-orelse limits _ _ _ (omega arith) (c .before .parts2 .result) (cc) (cc)
+operation-returns-4 t c =
+    c .more2 .ensures ∙ size-orelse limits _ _ _ (omega arith) (c .before .parts2 .result) (cc) (cc)
 
 operation-returns-5 : (t : ℕ) → operation-lts.Need-returns-5 (operation-calls t) (operation-at t) operation.Post
 operation-returns-5 t c = size-malformed limits _ _ _ (omega arith) (cc)
@@ -132,14 +177,16 @@ parts-more-requires : (t : ℕ) → parts-lts.Need-more-requires (parts-calls t)
 parts-more-requires t c κs = let a = c .before .before .before .before .before .before .before .before .args in
     let k = c .before .before .before .first .given .0 .0 in
     let f = size-fits limits (a .width) (a .depth) (a .s .now) k (cc) in
-    room limits (a .width) (a .depth) (a .n - 1) k (drop k (a .s .now)) (c .parts .result) (cc) (simp length-drop (omega arith))
+    room limits (a .width) (a .depth) (a .n - 1) k (drop k (a .s .now)) (c .parts .result) (cc)
+    (simp length-drop (omega arith))
 
 parts-returns-2 : (t : ℕ) → parts-lts.Need-returns-2 (parts-calls t) (parts-at t) parts.Post
 parts-returns-2 t c = sizes-none _ _ _ (omega arith) (cc)
 
 parts-returns-3 : (t : ℕ) → parts-lts.Need-returns-3 (parts-calls t) (parts-at t) parts.Post
 parts-returns-3 t c = c .more .ensures ∙
-    sizes-more _ _ _ (omega arith) (c .before .before .before .before .first .given .0 .0) (c .before .parts .result) (cc) (cc)
+    sizes-more _ _ _ (omega arith) (c .before .before .before .before .first .given .0 .0)
+    (c .before .parts .result) (cc) (cc)
 
 pub +operation+parts-spec : {M : Type 1} → statement M
 +operation+parts-spec = close μ-operation μ-parts (λ t. operation-lts.spec (operation-calls t)
