@@ -123,24 +123,22 @@ module _ (l : Limits) (width : ℕ) where
       size-one p k h e = rw (read-step l width depth s f, ← h, e)
 
       pub size-atomic :
-          (n : ℕ) (r : Size) → Atomic n ≡ kindOf l width s →
-          r ≡ sizesOf (readParts (readOp l width (depth - 1)) n (drop 2 s)) →
-          plus 2 r ≡ sizeOf (readOp l width depth s)
+          (n : ℕ) (t : List ℕ) (r : Size) → Atomic n ≡ kindOf l width s → t ≡ drop 2 s →
+          r ≡ sizesOf (readParts (readOp l width (depth - 1)) n t) → plus 2 r ≡ sizeOf (readOp l width depth s)
       unfolding readBody opSize
-      size-atomic n r h e =
-          rw (read-step l width depth s f, ← h, e) (go (readParts (readOp l width (depth - 1)) n (drop 2 s)))
+      size-atomic n t r h u e =
+          rw (read-step l width depth s f, ← h, e, u) (go (readParts (readOp l width (depth - 1)) n (drop 2 s)))
         where
           go : (o : Option Ops) → plus 2 (sizesOf o) ≡ sizeOf (Option·map atomic o)
           go (some ps) = refl
           go none = refl
 
       pub size-orelse :
-          (r : Size) → Orelse ≡ kindOf l width s →
-          r ≡ sizesOf (readParts (readOp l width (depth - 1)) 2 (drop 1 s)) →
-          plus 1 r ≡ sizeOf (readOp l width depth s)
+          (t : List ℕ) (r : Size) → Orelse ≡ kindOf l width s → t ≡ drop 1 s →
+          r ≡ sizesOf (readParts (readOp l width (depth - 1)) 2 t) → plus 1 r ≡ sizeOf (readOp l width depth s)
       unfolding readBody
-      size-orelse r h e =
-          rw (read-step l width depth s f, ← h, e) (size-two (readOp l width (depth - 1)) (drop 1 s))
+      size-orelse t r h u e =
+          rw (read-step l width depth s f, ← h, e, u) (size-two (readOp l width (depth - 1)) (drop 1 s))
 
 -- the size of a list of parts, by its first
 module _ (inner : List ℕ → Option Op) (n : ℕ) (s : List ℕ) where
@@ -161,12 +159,12 @@ module _ (inner : List ℕ → Option Op) (n : ℕ) (s : List ℕ) where
         go none q = refl
 
     pub sizes-more :
-        (a : ℕ) (r : Size) → Bytes a ≡ sizeOf (inner s) → r ≡ sizesOf (readParts inner (n - 1) (drop a s)) →
-        plus a r ≡ sizesOf (readParts inner n s)
+        (a : ℕ) (t : List ℕ) (r : Size) → Bytes a ≡ sizeOf (inner s) → t ≡ drop a s →
+        r ≡ sizesOf (readParts inner (n - 1) t) → plus a r ≡ sizesOf (readParts inner n s)
     unfolding bind opSize
-    sizes-more a r h e =
+    sizes-more a t r h u e =
         let p = sized (inner s) a h in
-        rw (parts-step inner n s f, e) (known (p .op) (p .is-read) (p .size-is))
+        rw (parts-step inner n s f, e, u) (known (p .op) (p .is-read) (p .size-is))
       where
         last : (p : Op) (o : Option Ops) → plus (opSize p) (sizesOf o) ≡ sizesOf (Option·map (λ ps. p then ps) o)
         last p (some ps) = refl

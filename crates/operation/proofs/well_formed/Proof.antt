@@ -1,3 +1,4 @@
+use mathlib.Core.Path.{sym, _∙_}
 use Rattle.operation.proofs.WellFormed.{many-cells, many-bytes, no-size, by-size}
 use Rattle.operation.specs.Limits.{limits}
 use native.Mathlib.Omega.{arith}
@@ -21,10 +22,10 @@ enum-told : tie.Need-enum-told
 enum-told c = search needs
 
 returns-3 : tie.Need-returns-3
-returns-3 c = by-size limits _ _ (omega arith) (omega arith) (c .before .n .given .0 .0) (cc)
+returns-3 c = by-size limits _ _ (omega arith) (omega arith) _ (sym (c .before .n .given .1) ∙ c .before .before .before .operation .ensures)
 
 returns-4 : tie.Need-returns-4
-returns-4 c = no-size limits _ _ (omega arith) (omega arith) (cc)
+returns-4 c = no-size limits _ _ (omega arith) (omega arith) (sym (c .enum-told .given .1) ∙ c .before .before .operation .ensures)
 
 pub well-formed-spec : {M : Type 1} → statement M
 well-formed-spec =

@@ -1,3 +1,4 @@
+use mathlib.Core.Path.{sym, _∙_}
 use Rattle.operation.proofs.FirstBytes.{fields-are, move-wrong, move-from, move-same, move-of}
 use Rattle.operation.specs.Limits.{limits}
 use native.Mathlib.Omega.{arith}
@@ -15,26 +16,23 @@ enum-known-to : tie.Need-enum-known-to
 enum-known-to c = search needs
 
 shared-slice-read-from : tie.Need-shared-slice-read-from
-shared-slice-read-from c = let g = c .before .before .to .given .0 in
-    let a = c .before .before .before .before .before .before .args in
-    omega (arith, fields-are limits (a .width) (a .s .now) 2 (g .0) (g .1 .0) (cc) .long)
+shared-slice-read-from c = let a = c .before .before .before .before .before .before .args in
+    omega (arith, fields-are limits (a .width) (a .s .now) 2 _ _ (sym (c .before .before .to .given .1) ∙ c .before .before .before .before .read-fields .ensures) .long)
 
 index-requires : tie.Need-index-requires
 index-requires c κs = search needs
 
 returns : tie.Need-returns
-returns c = let g = c .before .before .before .before .to .given .0 in
-    move-from limits _ _ (g .0) (g .1 .0) (cc) (omega arith)
+returns c = move-from limits _ _ _ _ (sym (c .before .before .before .before .to .given .1) ∙ c .before .before .before .before .before .before .read-fields .ensures) (omega arith)
 
 returns-2 : tie.Need-returns-2
-returns-2 c = let g = c .before .before .before .before .before .to .given .0 in
-    move-same limits _ _ (g .0) (g .1 .0) (cc) (omega arith) (omega arith)
+returns-2 c = move-same limits _ _ _ _ (sym (c .before .before .before .before .before .to .given .1) ∙ c .before .before .before .before .before .before .before .read-fields .ensures) (omega arith) (omega arith)
 
 returns-3 : tie.Need-returns-3
-returns-3 c = move-wrong limits _ _ (cc)
+returns-3 c = move-wrong limits _ _ (sym (c .enum-told .given .1) ∙ c .before .before .read-fields .ensures)
 
 returns-4 : tie.Need-returns-4
-returns-4 c = move-of limits _ _ _ _ (cc) (omega arith) (c .if2 .left)
+returns-4 c = move-of limits _ _ _ _ (sym (c .before .before .before .before .before .to .given .1) ∙ c .before .before .before .before .before .before .before .read-fields .ensures) (omega arith) (c .if2 .left)
 
 pub read-move-spec : {M : Type 1} → statement M
 read-move-spec =

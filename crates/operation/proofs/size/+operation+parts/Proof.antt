@@ -1,3 +1,5 @@
+use lib.ListN.{length, length-drop}
+use mathlib.Core.Path.{sym, ap, _∙_}
 use Rattle.operation.proofs.Sizes.{
   size-zero,
   size-one,
@@ -11,8 +13,6 @@ use Rattle.operation.proofs.Sizes.{
   room,
 }
 use Rattle.operation.specs.Limits.{limits}
-use lib.ListN.{drop, length-drop}
-use mathlib.Core.Path.{_∙_}
 use native.Mathlib.Omega.{arith}
 use borrow.Author.Needs.{needs}
 use Prim.Native.Nat.{ℕ, _<_, _*_, _+_, _-_}
@@ -110,8 +110,8 @@ operation-parts-requires t c κs = search needs
 operation-more-requires :
     (t : ℕ) → operation-lts.Need-more-requires (operation-calls t) (operation-at t) operation.Post
 operation-more-requires t c κs = let a = c .before .before .before .before .before .before .before .before .args in
-    room limits (a .width) (a .depth - 1) (c .before .before .before .n .given .0 .0) 2 (drop 2 (a .s .now))
-    (c .parts .result) (cc) (simp length-drop (omega arith))
+    let u = ap length (c .before .after .ensures) ∙ length-drop 2 (a .s .now) in
+    room limits (a .width) (a .depth - 1) (c .before .before .before .n .given .0 .0) 2 _ (c .parts .result) (c .parts .ensures) (omega arith)
 
 operation-enum-told : (t : ℕ) → operation-lts.Need-enum-told (operation-calls t) (operation-at t) operation.Post
 operation-enum-told t c = search needs
@@ -130,27 +130,28 @@ operation-parts-requires-2 t c κs = search needs
 operation-more-requires-2 :
     (t : ℕ) → operation-lts.Need-more-requires-2 (operation-calls t) (operation-at t) operation.Post
 operation-more-requires-2 t c κs = let a = c .before .before .before .before .before .before .before .args in
-    room limits (a .width) (a .depth - 1) 2 1 (drop 1 (a .s .now)) (c .parts2 .result) (cc)
-    (simp length-drop (omega arith))
+    let u = ap length (c .before .after2 .ensures) ∙ length-drop 1 (a .s .now) in
+    room limits (a .width) (a .depth - 1) 2 1 _ (c .parts2 .result) (c .parts2 .ensures) (omega arith)
 
 operation-enum-told-2 : (t : ℕ) → operation-lts.Need-enum-told-2 (operation-calls t) (operation-at t) operation.Post
 operation-enum-told-2 t c = search needs
 
 operation-returns-2 : (t : ℕ) → operation-lts.Need-returns-2 (operation-calls t) (operation-at t) operation.Post
-operation-returns-2 t c =
-    size-one limits _ _ _ (omega arith) (c .before .before .p .given .0 .0) _ (cc) (c .plain .ensures)
+operation-returns-2 t c = size-one limits _ _ _ (omega arith) (c .before .before .p .given .0 .0) _
+    (sym (c .before .before .p .given .1) ∙ c .before .before .before .before .read .ensures) (c .plain .ensures)
 
 operation-returns-3 : (t : ℕ) → operation-lts.Need-returns-3 (operation-calls t) (operation-at t) operation.Post
 operation-returns-3 t c = c .more .ensures ∙
-    size-atomic limits _ _ _ (omega arith) (c .before .before .before .before .n .given .0 .0)
-    (c .before .parts .result) (cc) (cc)
+    size-atomic limits _ _ _ (omega arith) (c .before .before .before .before .n .given .0 .0) _ (c .before .parts .result)
+    (sym (c .before .before .before .before .n .given .1) ∙ c .before .before .before .before .before .before .read .ensures) (c .before .before .after .ensures) (c .before .parts .ensures)
 
 operation-returns-4 : (t : ℕ) → operation-lts.Need-returns-4 (operation-calls t) (operation-at t) operation.Post
-operation-returns-4 t c =
-    c .more2 .ensures ∙ size-orelse limits _ _ _ (omega arith) (c .before .parts2 .result) (cc) (cc)
+operation-returns-4 t c = c .more2 .ensures ∙
+    size-orelse limits _ _ _ (omega arith) _ (c .before .parts2 .result)
+    (sym (c .before .before .before .enum-told .given .1) ∙ c .before .before .before .before .before .read .ensures) (c .before .before .after2 .ensures) (c .before .parts2 .ensures)
 
 operation-returns-5 : (t : ℕ) → operation-lts.Need-returns-5 (operation-calls t) (operation-at t) operation.Post
-operation-returns-5 t c = size-malformed limits _ _ _ (omega arith) (cc)
+operation-returns-5 t c = size-malformed limits _ _ _ (omega arith) (sym (c .enum-told2 .given .1) ∙ c .before .before .read .ensures)
 
 parts-returns : (t : ℕ) → parts-lts.Need-returns (parts-calls t) (parts-at t) parts.Post
 parts-returns t c = sizes-zero _ _ _ (omega arith)
@@ -176,17 +177,17 @@ parts-parts-requires t c κs = search needs
 parts-more-requires : (t : ℕ) → parts-lts.Need-more-requires (parts-calls t) (parts-at t) parts.Post
 parts-more-requires t c κs = let a = c .before .before .before .before .before .before .before .before .args in
     let k = c .before .before .before .first .given .0 .0 in
-    let f = size-fits limits (a .width) (a .depth) (a .s .now) k (cc) in
-    room limits (a .width) (a .depth) (a .n - 1) k (drop k (a .s .now)) (c .parts .result) (cc)
-    (simp length-drop (omega arith))
+    let f = size-fits limits (a .width) (a .depth) (a .s .now) k (sym (c .before .before .before .first .given .1) ∙ c .before .before .before .before .before .operation .ensures) in
+    let u = ap length (c .before .after .ensures) ∙ length-drop k (a .s .now) in
+    room limits (a .width) (a .depth) (a .n - 1) k _ (c .parts .result) (c .parts .ensures) (omega arith)
 
 parts-returns-2 : (t : ℕ) → parts-lts.Need-returns-2 (parts-calls t) (parts-at t) parts.Post
-parts-returns-2 t c = sizes-none _ _ _ (omega arith) (cc)
+parts-returns-2 t c = sizes-none _ _ _ (omega arith) (sym (c .enum-told .given .1) ∙ c .before .before .operation .ensures)
 
 parts-returns-3 : (t : ℕ) → parts-lts.Need-returns-3 (parts-calls t) (parts-at t) parts.Post
 parts-returns-3 t c = c .more .ensures ∙
-    sizes-more _ _ _ (omega arith) (c .before .before .before .before .first .given .0 .0)
-    (c .before .parts .result) (cc) (cc)
+    sizes-more _ _ _ (omega arith) (c .before .before .before .before .first .given .0 .0) _ (c .before .parts .result)
+    (sym (c .before .before .before .before .first .given .1) ∙ c .before .before .before .before .before .before .operation .ensures) (c .before .before .after .ensures) (c .before .parts .ensures)
 
 pub +operation+parts-spec : {M : Type 1} → statement M
 +operation+parts-spec = close μ-operation μ-parts (λ t. operation-lts.spec (operation-calls t)

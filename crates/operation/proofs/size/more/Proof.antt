@@ -1,3 +1,5 @@
+use Rattle.operation.specs.Sizes.{plus}
+use mathlib.Core.Path.{sym, ap}
 use Rattle.operation.proofs.Sizes.{room-bytes}
 use borrow.Author.Needs.{needs}
 use Rattle.operation.proofs.size.more.Statement.{statement}
@@ -8,13 +10,13 @@ enum-known-size c = search needs
 
 add-t5 : tie.Need-add-t5
 add-t5 c = let r = c .before .before .before in
-    record { fits = room-bytes (r .args .n) (r .args .size) (c .before .size .given .0 .0) (cc) (r .pre) }
+    record { fits = room-bytes (r .args .n) (r .args .size) _ (c .before .size .given .1) (r .pre) }
 
 enum-told : tie.Need-enum-told
 enum-told c = search needs
 
 returns : tie.Need-returns
-returns c = cc
+returns c = sym (ap (plus _) (c .before .size .given .1))
 
 returns-2 : tie.Need-returns-2
 returns-2 c = search needs
