@@ -8,7 +8,7 @@ use borrow.Author.Tests.{le-leb, lt-leb}
 use Rattle.operation.specs.Limits.{Limits}
 use Rattle.operation.specs.declared.Plain.{Plain}
 use Rattle.operation.specs.declared.Plain.the-variants.{Need, Put, Draw, Move}
-use Rattle.effect.specs.Running.{cell, step}
+use Rattle.effect.specs.Running.{cell, step, Came, came}
 use Rattle.effect.specs.Walking.{Inside}
 
 module _ (l : Limits) (c : List ℕ) where
@@ -65,3 +65,8 @@ module _ (n : ℕ) (p : Plain) (h : Inside n p) where
 
   pub inside-move : (k j a : ℕ) → p ≡ Move k j a → (k < n) × (j < n)
   inside-move k j a e = rw e at h
+
+-- a step of an operation is that of an equal one
+pub same-step :
+    (l : Limits) (c : List ℕ) (r : Came) (p q : Plain) → p ≡ q → r ≡ came c (step l p c) → r ≡ came c (step l q c)
+same-step l c r p q e h = rw e at h

@@ -22,10 +22,14 @@ enum-told : tie.Need-enum-told
 enum-told c = search needs
 
 returns-3 : tie.Need-returns-3
-returns-3 c = by-size limits _ _ (omega arith) (omega arith) _ (sym (c .before .n .given .1) ∙ c .before .before .before .operation .ensures)
+returns-3 c =
+    by-size limits _ _ (omega arith) (omega arith) _
+    (sym (c .before .n .given .1) ∙ c .before .before .before .operation .ensures)
 
 returns-4 : tie.Need-returns-4
-returns-4 c = no-size limits _ _ (omega arith) (omega arith) (sym (c .enum-told .given .1) ∙ c .before .before .operation .ensures)
+returns-4 c =
+    no-size limits _ _ (omega arith) (omega arith)
+    (sym (c .enum-told .given .1) ∙ c .before .before .operation .ensures)
 
 pub well-formed-spec : {M : Type 1} → statement M
 well-formed-spec =

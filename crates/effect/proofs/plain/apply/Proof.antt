@@ -1,4 +1,6 @@
-use Rattle.effect.proofs.Steps.{inside-need, inside-put, inside-draw, inside-move}
+use Rattle.effect.proofs.Steps.{same-step, inside-need, inside-put, inside-draw, inside-move}
+use Rattle.operation.specs.declared.Plain.the-variants.{Need, Put, Draw, Move}
+use mathlib.Core.Path.{sym, ap, _∙_}
 use Rattle.operation.specs.Limits.{limits}
 use native.Mathlib.Omega.{arith}
 use borrow.Author.Needs.{needs}
@@ -12,9 +14,8 @@ index-requires : tie.Need-index-requires
 index-requires c κs = search needs
 
 need-requires : tie.Need-need-requires
-need-requires c κs = let g = c .before .before .before .p .given .0 in
-    let r = c .before .before .before .before .before in
-    omega (arith, inside-need (limits .cells) (r .args .p) (r .pre) (g .0) (g .1 .0) (cc))
+need-requires c κs = let r = c .before .before .before .before .before in
+    omega (arith, inside-need (limits .cells) (r .args .p) (r .pre) _ _ (c .before .before .before .p .given .1))
 
 enum-known-p-2 : tie.Need-enum-known-p-2
 enum-known-p-2 c = search needs
@@ -23,9 +24,8 @@ index-requires-2 : tie.Need-index-requires-2
 index-requires-2 c κs = search needs
 
 put-requires : tie.Need-put-requires
-put-requires c κs = let g = c .before .before .before .p2 .given .0 in
-    let r = c .before .before .before .before .before in
-    omega (arith, inside-put (limits .cells) (r .args .p) (r .pre) (g .0) (g .1 .0) (cc))
+put-requires c κs = let r = c .before .before .before .before .before in
+    omega (arith, inside-put (limits .cells) (r .args .p) (r .pre) _ _ (c .before .before .before .p2 .given .1))
 
 enum-known-p-3 : tie.Need-enum-known-p-3
 enum-known-p-3 c = search needs
@@ -34,9 +34,8 @@ index-requires-3 : tie.Need-index-requires-3
 index-requires-3 c κs = search needs
 
 draw-requires : tie.Need-draw-requires
-draw-requires c κs = let g = c .before .before .before .p3 .given .0 in
-    let r = c .before .before .before .before .before in
-    omega (arith, inside-draw (limits .cells) (r .args .p) (r .pre) (g .0) (g .1 .0) (cc))
+draw-requires c κs = let r = c .before .before .before .before .before in
+    omega (arith, inside-draw (limits .cells) (r .args .p) (r .pre) _ _ (c .before .before .before .p3 .given .1))
 
 enum-known-p-4 : tie.Need-enum-known-p-4
 enum-known-p-4 c = search needs
@@ -48,21 +47,34 @@ index-requires-5 : tie.Need-index-requires-5
 index-requires-5 c κs = search needs
 
 shift-requires : tie.Need-shift-requires
-shift-requires c κs = let g = c .before .before .before .before .p4 .given .0 in
-    let r = c .before .before .before .before .before .before in
-    omega (arith, inside-move (limits .cells) (r .args .p) (r .pre) (g .0) (g .1 .0) (g .1 .1 .0) (cc))
+shift-requires c κs = let r = c .before .before .before .before .before .before in
+    omega (
+      arith,
+      inside-move (limits .cells) (r .args .p) (r .pre) _ _ _
+          (c .before .before .before .before .p4 .given .1),
+    )
 
 returns : tie.Need-returns
-returns c = cc
+returns c = let g = c .before .before .before .before .p .given in
+    same-step limits _ _ _ _ (ap (λ k. Need k (g .0 .1 .0)) (c .before .before .index .ensures) ∙ sym (g .1))
+    (c .need .ensures)
 
 returns-2 : tie.Need-returns-2
-returns-2 c = cc
+returns-2 c = let g = c .before .before .before .before .p2 .given in
+    same-step limits _ _ _ _ (ap (λ k. Put k (g .0 .1 .0)) (c .before .before .index2 .ensures) ∙ sym (g .1))
+    (c .put .ensures)
 
 returns-3 : tie.Need-returns-3
-returns-3 c = cc
+returns-3 c = let g = c .before .before .before .before .p3 .given in
+    same-step limits _ _ _ _ (ap (λ k. Draw k (g .0 .1 .0)) (c .before .before .index3 .ensures) ∙ sym (g .1))
+    (c .draw .ensures)
 
 returns-4 : tie.Need-returns-4
-returns-4 c = cc
+returns-4 c = let g = c .before .before .before .before .before .p4 .given in
+    let from = ap (λ k. Move k (c .before .before .index5 .result) (g .0 .1 .1 .0))
+    (c .before .before .before .index4 .ensures) in
+    let to = ap (λ j. Move (g .0 .0) j (g .0 .1 .1 .0)) (c .before .before .index5 .ensures) in
+    same-step limits _ _ _ _ (from ∙ (to ∙ sym (g .1))) (c .shift .ensures)
 
 pub apply-spec : {M : Type 1} → statement M
 apply-spec =

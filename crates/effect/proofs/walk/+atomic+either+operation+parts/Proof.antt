@@ -1,3 +1,4 @@
+use mathlib.Core.Path.{refl, sym, _∙_}
 use Rattle.effect.proofs.Walking.{
   kind-inside,
   run-zero,
@@ -17,7 +18,6 @@ use Rattle.effect.proofs.Walking.{
 }
 use Rattle.operation.specs.Limits.{limits}
 use borrow.Author.Tests.{not-true, not-false}
-use mathlib.Core.Path.{refl}
 use native.Mathlib.Omega.{arith}
 use borrow.Author.Needs.{needs}
 use Prim.Native.Nat.{ℕ, _+_, _*_, _<_}
@@ -164,12 +164,15 @@ either-enum-told t c = search needs
 either-returns-2 : (t : ℕ) → either-lts.Need-returns-2 (either-calls t) (either-at t) either.Post
 either-returns-2 t c =
     either-second limits _ _ _ _
-    (c .before .before .before .before .before .before .before .before .operation .ensures)
-    (c .before .before .before .before .k .given .0 .0) _ (cc) (c .before .before .after .ensures) _
-    (c .before .before .before .before .before .before .before .if1 .left) (c .operation3 .ensures)
+    (c .before .before .before .before .before .before .before .before .operation .ensures) _ _
+    (sym (c .before .before .before .before .k .given .1) ∙ c .before .before .before .before .before .before
+    .operation2 .ensures)
+    (c .before .before .after .ensures) _ (c .before .before .before .before .before .before .before .if1 .left)
+    (c .operation3 .ensures)
 
 either-returns-3 : (t : ℕ) → either-lts.Need-returns-3 (either-calls t) (either-at t) either.Post
-either-returns-3 t c = either-none limits _ _ _ (cc) _
+either-returns-3 t c =
+    either-none limits _ _ _ (sym (c .enum-told .given .1) ∙ c .before .before .operation2 .ensures) _
 
 operation-returns : (t : ℕ) → operation-lts.Need-returns (operation-calls t) (operation-at t) operation.Post
 operation-returns t c = run-zero limits _ _ _ _ _ (omega arith)
@@ -185,8 +188,8 @@ operation-enum-known-p t c = search needs
 operation-apply-requires :
     (t : ℕ) → operation-lts.Need-apply-requires (operation-calls t) (operation-at t) operation.Post
 operation-apply-requires t c κs = let r = c .before .before .before .before .before .before .before in
-    kind-inside limits (r .args .width) (limits .cells) (r .args .s .now) (c .before .before .p .given .0 .0)
-    (omega arith) (cc)
+    kind-inside limits (r .args .width) (limits .cells) (r .args .s .now) _ (omega arith)
+    (sym (c .before .before .p .given .1) ∙ c .before .before .before .before .read .ensures)
 
 operation-enum-known-n :
     (t : ℕ) → operation-lts.Need-enum-known-n (operation-calls t) (operation-at t) operation.Post
@@ -222,19 +225,27 @@ operation-enum-told-2 t c = search needs
 
 operation-returns-2 : (t : ℕ) → operation-lts.Need-returns-2 (operation-calls t) (operation-at t) operation.Post
 operation-returns-2 t c =
-    run-one limits _ _ _ _ _ (omega arith) (c .before .before .before .p .given .0 .0) (cc) (c .apply .ensures)
+    run-one limits _ _ _ _ _ (omega arith) _
+    (sym (c .before .before .before .p .given .1) ∙ c .before .before .before .before .before .read .ensures)
+    (c .apply .ensures)
 
 operation-returns-3 : (t : ℕ) → operation-lts.Need-returns-3 (operation-calls t) (operation-at t) operation.Post
 operation-returns-3 t c =
-    run-atomic limits _ _ _ _ _ (omega arith) (c .before .before .before .before .n .given .0 .0) _ (cc)
+    run-atomic limits _ _ _ _ _ (omega arith) _ _
+    (sym (c .before .before .before .before .n .given .1) ∙ c .before .before .before .before .before .before .read
+    .ensures)
     (c .before .before .after .ensures) (c .atomic .ensures)
 
 operation-returns-4 : (t : ℕ) → operation-lts.Need-returns-4 (operation-calls t) (operation-at t) operation.Post
 operation-returns-4 t c =
-    run-orelse limits _ _ _ _ _ (omega arith) _ (cc) (c .before .before .after2 .ensures) (c .either .ensures)
+    run-orelse limits _ _ _ _ _ (omega arith) _
+    (sym (c .before .before .before .enum-told .given .1) ∙ c .before .before .before .before .before .read
+    .ensures)
+    (c .before .before .after2 .ensures) (c .either .ensures)
 
 operation-returns-5 : (t : ℕ) → operation-lts.Need-returns-5 (operation-calls t) (operation-at t) operation.Post
-operation-returns-5 t c = run-malformed limits _ _ _ _ _ (omega arith) (cc)
+operation-returns-5 t c =
+    run-malformed limits _ _ _ _ _ (omega arith) (sym (c .enum-told2 .given .1) ∙ c .before .before .read .ensures)
 
 parts-returns : (t : ℕ) → parts-lts.Need-returns (parts-calls t) (parts-at t) parts.Post
 parts-returns t c = parts-zero limits _ _ _ _ (omega arith)
@@ -268,12 +279,16 @@ parts-enum-told t c = search needs
 parts-returns-3 : (t : ℕ) → parts-lts.Need-returns-3 (parts-calls t) (parts-at t) parts.Post
 parts-returns-3 t c =
     parts-more limits _ _ _ _
-    (c .before .before .before .before .before .before .before .before .before .operation .ensures)
-    (c .before .before .before .before .k .given .0 .0) _ (cc) (c .before .before .after .ensures) _ _ (omega arith)
+    (c .before .before .before .before .before .before .before .before .before .operation .ensures) _ _
+    (sym (c .before .before .before .before .k .given .1) ∙ c .before .before .before .before .before .before
+    .operation2 .ensures)
+    (c .before .before .after .ensures) _ _ (omega arith)
     (not-false _ (c .before .before .before .before .before .before .before .if2 .left)) (c .parts .ensures)
 
 parts-returns-4 : (t : ℕ) → parts-lts.Need-returns-4 (parts-calls t) (parts-at t) parts.Post
-parts-returns-4 t c = parts-none limits _ _ _ (cc) _ _ (omega arith)
+parts-returns-4 t c =
+    parts-none limits _ _ _ (sym (c .enum-told .given .1) ∙ c .before .before .operation2 .ensures) _ _
+    (omega arith)
 
 pub +atomic+either+operation+parts-spec : {M : Type 1} → statement M
 +atomic+either+operation+parts-spec =

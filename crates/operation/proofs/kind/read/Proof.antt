@@ -56,22 +56,34 @@ read-atomic-requires : tie.Need-read-atomic-requires
 read-atomic-requires c κs = search needs
 
 returns-2 : tie.Need-returns-2
-returns-2 c = kind-need limits _ _ (omega arith) (Of _ _) (sym (c .before .cell .given .1) ∙ c .before .before .before .read-fields .ensures) (omega arith)
+returns-2 c =
+    kind-need limits _ _ (omega arith) (Of _ _)
+    (sym (c .before .cell .given .1) ∙ c .before .before .before .read-fields .ensures) (omega arith)
 
 returns-3 : tie.Need-returns-3
-returns-3 c = kind-need limits _ _ (omega arith) Wrong (sym (c .enum-told .given .1) ∙ c .before .before .read-fields .ensures) (omega arith)
+returns-3 c =
+    kind-need limits _ _ (omega arith) Wrong
+    (sym (c .enum-told .given .1) ∙ c .before .before .read-fields .ensures) (omega arith)
 
 returns-4 : tie.Need-returns-4
-returns-4 c = kind-put limits _ _ (omega arith) (Of _ _) (sym (c .before .cell2 .given .1) ∙ c .before .before .before .read-fields2 .ensures) (omega arith)
+returns-4 c =
+    kind-put limits _ _ (omega arith) (Of _ _)
+    (sym (c .before .cell2 .given .1) ∙ c .before .before .before .read-fields2 .ensures) (omega arith)
 
 returns-5 : tie.Need-returns-5
-returns-5 c = kind-put limits _ _ (omega arith) Wrong (sym (c .enum-told2 .given .1) ∙ c .before .before .read-fields2 .ensures) (omega arith)
+returns-5 c =
+    kind-put limits _ _ (omega arith) Wrong
+    (sym (c .enum-told2 .given .1) ∙ c .before .before .read-fields2 .ensures) (omega arith)
 
 returns-6 : tie.Need-returns-6
-returns-6 c = kind-draw limits _ _ (omega arith) (Of _ _) (sym (c .before .cell3 .given .1) ∙ c .before .before .before .read-fields3 .ensures) (omega arith)
+returns-6 c =
+    kind-draw limits _ _ (omega arith) (Of _ _)
+    (sym (c .before .cell3 .given .1) ∙ c .before .before .before .read-fields3 .ensures) (omega arith)
 
 returns-7 : tie.Need-returns-7
-returns-7 c = kind-draw limits _ _ (omega arith) Wrong (sym (c .enum-told3 .given .1) ∙ c .before .before .read-fields3 .ensures) (omega arith)
+returns-7 c =
+    kind-draw limits _ _ (omega arith) Wrong
+    (sym (c .enum-told3 .given .1) ∙ c .before .before .read-fields3 .ensures) (omega arith)
 
 returns-8 : tie.Need-returns-8
 returns-8 c = kind-move limits _ _ (omega arith) _ (c .read-move .ensures) (omega arith)

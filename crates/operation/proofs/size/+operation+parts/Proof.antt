@@ -111,7 +111,8 @@ operation-more-requires :
     (t : ℕ) → operation-lts.Need-more-requires (operation-calls t) (operation-at t) operation.Post
 operation-more-requires t c κs = let a = c .before .before .before .before .before .before .before .before .args in
     let u = ap length (c .before .after .ensures) ∙ length-drop 2 (a .s .now) in
-    room limits (a .width) (a .depth - 1) (c .before .before .before .n .given .0 .0) 2 _ (c .parts .result) (c .parts .ensures) (omega arith)
+    room limits (a .width) (a .depth - 1) (c .before .before .before .n .given .0 .0) 2 _ (c .parts .result)
+    (c .parts .ensures) (omega arith)
 
 operation-enum-told : (t : ℕ) → operation-lts.Need-enum-told (operation-calls t) (operation-at t) operation.Post
 operation-enum-told t c = search needs
@@ -142,16 +143,22 @@ operation-returns-2 t c = size-one limits _ _ _ (omega arith) (c .before .before
 
 operation-returns-3 : (t : ℕ) → operation-lts.Need-returns-3 (operation-calls t) (operation-at t) operation.Post
 operation-returns-3 t c = c .more .ensures ∙
-    size-atomic limits _ _ _ (omega arith) (c .before .before .before .before .n .given .0 .0) _ (c .before .parts .result)
-    (sym (c .before .before .before .before .n .given .1) ∙ c .before .before .before .before .before .before .read .ensures) (c .before .before .after .ensures) (c .before .parts .ensures)
+    size-atomic limits _ _ _ (omega arith) (c .before .before .before .before .n .given .0 .0) _
+    (c .before .parts .result)
+    (sym (c .before .before .before .before .n .given .1) ∙ c .before .before .before .before .before .before .read
+    .ensures)
+    (c .before .before .after .ensures) (c .before .parts .ensures)
 
 operation-returns-4 : (t : ℕ) → operation-lts.Need-returns-4 (operation-calls t) (operation-at t) operation.Post
 operation-returns-4 t c = c .more2 .ensures ∙
     size-orelse limits _ _ _ (omega arith) _ (c .before .parts2 .result)
-    (sym (c .before .before .before .enum-told .given .1) ∙ c .before .before .before .before .before .read .ensures) (c .before .before .after2 .ensures) (c .before .parts2 .ensures)
+    (sym (c .before .before .before .enum-told .given .1) ∙ c .before .before .before .before .before .read
+    .ensures)
+    (c .before .before .after2 .ensures) (c .before .parts2 .ensures)
 
 operation-returns-5 : (t : ℕ) → operation-lts.Need-returns-5 (operation-calls t) (operation-at t) operation.Post
-operation-returns-5 t c = size-malformed limits _ _ _ (omega arith) (sym (c .enum-told2 .given .1) ∙ c .before .before .read .ensures)
+operation-returns-5 t c =
+    size-malformed limits _ _ _ (omega arith) (sym (c .enum-told2 .given .1) ∙ c .before .before .read .ensures)
 
 parts-returns : (t : ℕ) → parts-lts.Need-returns (parts-calls t) (parts-at t) parts.Post
 parts-returns t c = sizes-zero _ _ _ (omega arith)
@@ -177,17 +184,23 @@ parts-parts-requires t c κs = search needs
 parts-more-requires : (t : ℕ) → parts-lts.Need-more-requires (parts-calls t) (parts-at t) parts.Post
 parts-more-requires t c κs = let a = c .before .before .before .before .before .before .before .before .args in
     let k = c .before .before .before .first .given .0 .0 in
-    let f = size-fits limits (a .width) (a .depth) (a .s .now) k (sym (c .before .before .before .first .given .1) ∙ c .before .before .before .before .before .operation .ensures) in
+    let f = size-fits limits (a .width) (a .depth) (a .s .now) k
+    (sym (c .before .before .before .first .given .1) ∙ c .before .before .before .before .before .operation
+    .ensures) in
     let u = ap length (c .before .after .ensures) ∙ length-drop k (a .s .now) in
     room limits (a .width) (a .depth) (a .n - 1) k _ (c .parts .result) (c .parts .ensures) (omega arith)
 
 parts-returns-2 : (t : ℕ) → parts-lts.Need-returns-2 (parts-calls t) (parts-at t) parts.Post
-parts-returns-2 t c = sizes-none _ _ _ (omega arith) (sym (c .enum-told .given .1) ∙ c .before .before .operation .ensures)
+parts-returns-2 t c =
+    sizes-none _ _ _ (omega arith) (sym (c .enum-told .given .1) ∙ c .before .before .operation .ensures)
 
 parts-returns-3 : (t : ℕ) → parts-lts.Need-returns-3 (parts-calls t) (parts-at t) parts.Post
 parts-returns-3 t c = c .more .ensures ∙
-    sizes-more _ _ _ (omega arith) (c .before .before .before .before .first .given .0 .0) _ (c .before .parts .result)
-    (sym (c .before .before .before .before .first .given .1) ∙ c .before .before .before .before .before .before .operation .ensures) (c .before .before .after .ensures) (c .before .parts .ensures)
+    sizes-more _ _ _ (omega arith) (c .before .before .before .before .first .given .0 .0) _
+    (c .before .parts .result)
+    (sym (c .before .before .before .before .first .given .1) ∙ c .before .before .before .before .before .before
+    .operation .ensures)
+    (c .before .before .after .ensures) (c .before .parts .ensures)
 
 pub +operation+parts-spec : {M : Type 1} → statement M
 +operation+parts-spec = close μ-operation μ-parts (λ t. operation-lts.spec (operation-calls t)
