@@ -1,6 +1,10 @@
-// What several crates stand on: the answers by name, what is left of a slice, a byte as an index.
+// What several crates stand on: the answers by name, and small functions on slices and bytes.
 ghost use mathlib.Core.Path.{_≡_};
 ghost use lib.ListN.{drop};
+ghost use lib.Dec.{ltb, leb, eqb};
+ghost use mathlib.Core.Bool.{true};
+ghost use Rattle.basics.specs.Choice.{if_then_else_};
+ghost use Rattle.basics.specs.Counts.{counts, zerosFrom};
 
 // What a call answers: done, or why it refuses. `numberOf` in specs/Answers.antt has the paper's number of each.
 pub enum Answer {
@@ -36,4 +40,44 @@ pub fn index(x: u8) -> usize
     ensures { λ r. ⌜ r ≡ x ⌝ }
 {
     x as usize
+}
+
+// Whether each of the first `n` of `xs` is at most `most`, and every later one 0.
+pub fn are_counts(xs: &[u32], n: usize, most: u32) -> bool
+    ensures { λ r. ⌜ r ≡ counts (now (xs .entry)) n most ⌝ }
+{
+    let mut i: usize = 0;
+    while i < xs.len() {
+        if !is_count(xs[i], i, n, most) {
+            return false;
+        }
+        i += 1;
+    }
+    true
+}
+
+fn is_count(x: u32, i: usize, n: usize, most: u32) -> bool
+    ensures { λ r. ⌜ r ≡ (if ltb i n then leb x most else eqb x 0) ⌝ }
+{
+    if i < n { x <= most } else { x == 0 }
+}
+
+// Whether every place of `xs` from the `n`-th on is 0.
+pub fn are_zeros(xs: &[u8], n: usize) -> bool
+    ensures { λ r. ⌜ r ≡ zerosFrom (now (xs .entry)) n ⌝ }
+{
+    let mut i: usize = 0;
+    while i < xs.len() {
+        if !is_zero(xs[i], i, n) {
+            return false;
+        }
+        i += 1;
+    }
+    true
+}
+
+fn is_zero(x: u8, i: usize, n: usize) -> bool
+    ensures { λ r. ⌜ r ≡ (if ltb i n then true else eqb x 0) ⌝ }
+{
+    if i < n { true } else { x == 0 }
 }
