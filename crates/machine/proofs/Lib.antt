@@ -1,0 +1,2 @@
+-- The laws of the machine, by subject; the crates above cite them too.
+pub mod InShape
