@@ -4,8 +4,9 @@ use mathlib.Core.Bool.{Bool, true, false, _&&_}
 use mathlib.Core.List.{List}
 use mathlib.Core.Option.{Option, some, none, bind, orElse}
 use lib.Dec.{leb}
-use lib.ListN.{getD, set}
+use lib.ListN.{length, getD, set, replicate}
 use Rattle.basics.specs.Choice.{if_then_else_}
+use Rattle.basics.specs.Over.{over}
 use Rattle.operation.specs.Limits.{Limits}
 use Rattle.operation.specs.Tree.{Op, Ops, plain, atomic, orelse, end, _then_}
 use Rattle.operation.specs.Reading.{operationOf}
@@ -15,6 +16,10 @@ use Rattle.operation.specs.declared.Plain.the-variants.{Need, Put, Draw, Move}
 -- what cell k holds
 abbrev pub cell : List ℕ → ℕ → ℕ
 cell c k = getD c k 0
+
+-- the cells that hold these counts, and zeros after them
+unfoldable pub filled : Limits → List ℕ → List ℕ
+filled l first = over (length first) first (replicate (l .cells) 0)
 
 -- the cells after a plain operation, or none where it fails
 unfoldable pub step : Limits → Plain → List ℕ → Option (List ℕ)

@@ -5,10 +5,10 @@ mod walk;
 ghost use mathlib.Core.Path.{_≡_};
 ghost use mathlib.Core.Bool.{true};
 ghost use Prim.Native.Nat.{_≤_};
-ghost use lib.ListN.{take};
+ghost use lib.ListN.{length, take};
 ghost use Rattle.operation.specs.Limits.{limits};
 ghost use Rattle.operation.specs.Reading.{wellFormed};
-ghost use Rattle.effect.specs.Running.{did, came, outcome};
+ghost use Rattle.effect.specs.Running.{filled, did, came, outcome};
 ghost use Rattle.effect.specs.Telling.{told, tells};
 ghost use Rattle.operation.specs.Packing.{unpacked};
 ghost use Rattle.effect.specs.Replaying.{queued, replay as replayed, Ready, Sound};
@@ -26,6 +26,20 @@ pub const QUEUE: usize = 16;
 
 // Operations that wait, the oldest first.
 pub type Queue = [Packed; QUEUE];
+
+// The counts `first`, and zeros after them.
+pub fn cells_of(first: &[u32]) -> Cells
+    requires { ⌜ length (now first) ≤ limits .cells ⌝ }
+    ensures { λ r. ⌜ r ≡ filled limits (now (first .entry)) ⌝ }
+{
+    let mut cells = [0u32; CELLS];
+    let mut i: usize = 0;
+    while i < first.len() {
+        cells[i] = first[i];
+        i += 1;
+    }
+    cells
+}
 
 // What running tells.
 pub struct Ran {

@@ -6,3 +6,4 @@ pub mod WellFormed
 pub mod Depth
 pub mod Writing
 pub mod Exact
+pub mod Packing

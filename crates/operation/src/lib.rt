@@ -1,6 +1,7 @@
 // What bytes mean: which of them are an operation, and how many bytes an operation takes.
 //
 // The code works on the bytes. The definitions, in specs/, read them into a tree; `well_formed` answers whether they can.
+pub mod keep;
 pub mod kind;
 pub mod size;
 
