@@ -17,6 +17,7 @@ use Rattle.operation.specs.declared.kind.Kind.the-variants.{One, Atomic, Orelse
 use Rattle.operation.specs.declared.size.Size.the-variants.{Bytes, Malformed as NoSize}
 use Rattle.operation.proofs.FirstBytes.{PlainRead, kind-is}
 use Rattle.operation.proofs.Reading.{none-some, read-step, split-of, two-of}
+use Rattle.effect.proofs.Cases.{came-some, came-none}
 use Rattle.effect.specs.Running.{step, run, runAll, Came, did, came}
 use Rattle.effect.specs.Walking.{Inside, RunsOp, RunsEither, RunsAtomic, RunsParts, Leaves}
 
@@ -30,16 +31,6 @@ kind-inside l width m s p h e = go p (kind-is l width s (One p) e)
     go (Put cell amount) r = omega (arith, r .1 .below)
     go (Draw cell amount) r = omega (arith, r .1 .below)
     go (Move from to amount) r = (omega (arith, r .3), omega (arith, r .1 .below))
-
--- whether a run succeeded tells what came of it
-module _ (c : List ℕ) (q : Came) where
-  came-some : (o : Option (List ℕ)) → q ≡ came c o → q .ok ≡ true → o ≡ some (q .cells)
-  came-some (some d) e h = rw e
-  came-some none e h = absurd (true≢false (sym h ∙ ap (λ (x : Came). x .ok) e))
-
-  came-none : (o : Option (List ℕ)) → q ≡ came c o → q .ok ≡ false → (o ≡ none) × (q .cells ≡ c)
-  came-none (some d) e h = absurd (false≢true (sym h ∙ ap (λ (x : Came). x .ok) e))
-  came-none none e h = (refl, ap (λ (x : Came). x .cells) e)
 
 module _ (l : Limits) (width depth : ℕ) (s c : List ℕ) (r : Came) where
   pub run-zero : depth ≡ 0 → RunsOp l (readOp l width depth) s c r

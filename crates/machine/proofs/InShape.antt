@@ -93,3 +93,76 @@ module _ (l : Limits) (width waiting i : ℕ) (o : Packed) where
     pub place-blank : (r : Bool) → o .len ≡ 0 → r ≡ zerosFrom (o .bytes) 0 → r ≡ placeGood l width waiting i o
     unfolding placeGood
     place-blank r g e = e ∙ simp (le-ltb i waiting h, eq-eqb (o .len) 0 g)
+
+-- what a machine in shape is known to hold
+pub record Good (l : Limits) (m : Machine) : Type 0 where
+  pub machines-least : 1 ≤ m .machines
+  pub machines-most : m .machines ≤ mostMachines
+  pub width-least : 1 ≤ m .width
+  pub width-most : m .width ≤ l .cells
+  pub own : m .me < m .machines
+  pub queue-most : m .waiting ≤ mostQueued
+  pub issued-most : m .issued ≤ mostIssued
+  pub queue-is : m .done + m .waiting ≡ m .issued
+  pub heard : m .kept + (m .lost + m .unheard) ≡ m .done
+  pub position-most : m .position ≤ mostDecided
+  pub agreed : counts (m .agreed) (m .width) (l .held) ≡ true
+  pub guess : counts (m .guess) (m .width) (l .held) ≡ true
+  pub notes : counts (m .notes) noteCount (l .held) ≡ true
+  pub places :
+      every mostQueued (λ i. placeGood l (m .width) (m .waiting) i (getD (m .queue) i nothing)) ≡ true
+
+module _ (l : Limits) (m : Machine) where
+  pub good : shaped l m ≡ true → Good l m
+  unfolding shaped sizesGood salesGood
+  good h =
+      let (sizes, a) = and-both _ _ h in
+      let (sales, b) = and-both _ _ a in
+      let (position, d) = and-both _ _ b in
+      let (agreed, e) = and-both _ _ d in
+      let (guess, f) = and-both _ _ e in
+      let (notes, queue) = and-both _ _ f in
+      let (m1, s2) = and-both _ _ sizes in
+      let (m2, s3) = and-both _ _ s2 in
+      let (w1, s4) = and-both _ _ s3 in
+      let (w2, own) = and-both _ _ s4 in
+      let (q1, t2) = and-both _ _ sales in
+      let (i1, t3) = and-both _ _ t2 in
+      let (q2, heard) = and-both _ _ t3 in
+      record {
+        machines-least = leb-true _ _ m1;
+        machines-most = leb-true _ _ m2;
+        width-least = leb-true _ _ w1;
+        width-most = leb-true _ _ w2;
+        own = ltb-true _ _ own;
+        queue-most = leb-true _ _ q1;
+        issued-most = leb-true _ _ i1;
+        queue-is = eqb-true _ _ q2;
+        heard = eqb-true _ _ heard;
+        position-most = leb-true _ _ position;
+        agreed = agreed;
+        guess = guess;
+        notes = notes;
+        places = queue;
+      }
+
+  -- and a machine that holds it is in shape
+  pub is-shaped : Good l m → shaped l m ≡ true
+  unfolding shaped sizesGood salesGood
+  is-shaped g =
+      simp (
+        le-leb _ _ (g .machines-least),
+        le-leb _ _ (g .machines-most),
+        le-leb _ _ (g .width-least),
+        le-leb _ _ (g .width-most),
+        lt-ltb _ _ (g .own),
+        le-leb _ _ (g .queue-most),
+        le-leb _ _ (g .issued-most),
+        eq-eqb _ _ (g .queue-is),
+        eq-eqb _ _ (g .heard),
+        le-leb _ _ (g .position-most),
+        g .agreed,
+        g .guess,
+        g .notes,
+        g .places,
+      )

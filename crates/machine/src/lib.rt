@@ -1,11 +1,31 @@
-// The selling machine: its state and its five calls.
+// The selling machine: its state and its five calls. Each call tests the state's shape and its arguments, in the paper's
+// order of refusals; its `_known` form is for a state that is known to be in shape.
+mod answers;
+mod done;
 mod shape;
 
 ghost use mathlib.Core.Path.{_≡_};
+ghost use mathlib.Core.Bool.{true};
+ghost use lib.ListN.{length};
 ghost use Rattle.operation.specs.Limits.{limits};
+ghost use Rattle.operation.specs.Reading.{wellFormed};
 ghost use Rattle.machine.specs.Shape.{shaped};
+ghost use Rattle.machine.specs.Starting.{freshOf};
+ghost use Rattle.machine.specs.Issuing.{issueOf, issueKnown};
+ghost use Rattle.machine.specs.Noting.{noteOf, noteKnown};
+ghost use Rattle.machine.specs.Asking.{askOf, askKnown, askedInto, askedKnown};
+ghost use Rattle.machine.specs.Recording.{recordOf, recordKnown};
+ghost use Rattle.machine.specs.Copying.{copyOf, copyKnown, copyGood};
+use answers::not_asked;
+use answers::not_copied;
+use answers::not_issued;
+use answers::not_noted;
+use answers::not_taken;
+use basics::Answer;
 use effect::Cells;
 use effect::Queue;
+use operation::BYTES;
+use operation::HELD;
 
 // What a machine holds: how many machines and cells there are and its own number; the agreed counts and how many records
 // it has taken in; its guess, and the sales that wait, the oldest first; how many it has issued and had decided, and how
@@ -29,6 +49,44 @@ pub struct Machine {
 
 const NOTES: usize = 4;
 
+// What each call answers, with the machine after it. A refusal has its answer, zeros, and the machine as it came.
+pub struct Made {
+    pub answer: Answer,
+    pub machine: Machine,
+}
+
+pub struct Issued {
+    pub answer: Answer,
+    pub number: u64,
+    pub machine: Machine,
+}
+
+pub struct Noted {
+    pub answer: Answer,
+    pub count: u32,
+    pub machine: Machine,
+}
+
+pub struct Asked {
+    pub answer: Answer,
+    pub number: u64,
+    pub len: usize,
+}
+
+// The outcome is 1 or 0 of an own record, and 2 of another's.
+pub struct Taken {
+    pub answer: Answer,
+    pub outcome: u8,
+    pub machine: Machine,
+}
+
+// How many operations left the queue.
+pub struct Copied {
+    pub answer: Answer,
+    pub left: usize,
+    pub machine: Machine,
+}
+
 impl Machine {
     pub const MACHINES: usize = 40;
 
@@ -39,6 +97,59 @@ impl Machine {
     pub const ISSUED: u64 = 1_000_000_000;
 
     pub const DECIDED: u64 = 40_000_000_000;
+
+    // Issue: runs on the guess; if it succeeds, the operation waits under the next number.
+    pub fn issue(self, op: &[u8]) -> Issued
+        ensures { λ r. ⌜ r ≡ issueOf limits self (now (op .entry)) ⌝ }
+    {
+        if !self.shaped() {
+            return not_issued(Answer::OutOfShape, self);
+        }
+        if !operation::well_formed(op, self.width) {
+            return not_issued(Answer::Malformed, self);
+        }
+        self.issue_known(op)
+    }
+
+    pub fn issue_known(self, op: &[u8]) -> Issued
+        requires { ⌜ (shaped limits self ≡ true) × (wellFormed limits (self .width) (now op) ≡ true) ⌝ }
+        ensures { λ r. ⌜ r ≡ issueKnown limits self (now (op .entry)) ⌝ }
+    {
+        if Machine::QUEUE <= self.waiting {
+            return not_issued(Answer::QueueFull, self);
+        }
+        if Machine::ISSUED <= self.issued {
+            return not_issued(Answer::AllIssued, self);
+        }
+        let mut guess = self.guess;
+        if !effect::run_known(op, self.width, &mut guess).ok {
+            return not_issued(Answer::FailsOnGuess, self);
+        }
+        done::sell(self, op, guess)
+    }
+
+    // Note: note `k` becomes the guess of a cell.
+    pub fn note(self, k: usize, cell: usize) -> Noted
+        ensures { λ r. ⌜ r ≡ noteOf limits self k cell ⌝ }
+    {
+        if !self.shaped() {
+            return not_noted(Answer::OutOfShape, self);
+        }
+        self.note_known(k, cell)
+    }
+
+    pub fn note_known(self, k: usize, cell: usize) -> Noted
+        requires { ⌜ shaped limits self ≡ true ⌝ }
+        ensures { λ r. ⌜ r ≡ noteKnown self k cell ⌝ }
+    {
+        if Machine::NOTES <= k {
+            return not_noted(Answer::NoSuchNote, self);
+        }
+        if self.width <= cell {
+            return not_noted(Answer::NoSuchNote, self);
+        }
+        done::write(self, k, cell)
+    }
 
     // Whether the state is in good shape.
     pub fn shaped(self) -> bool
