@@ -44,6 +44,14 @@ module _ (l : Limits) (machines width me : ℕ) where
         unfolding sizesGood
         own-number h = simp (le-leb 1 machines a, le-leb machines mostMachines b, le-leb 1 width c, le-leb width (l .cells) h)
 
+pub sizes-width : (l : Limits) (machines width me : ℕ) → sizesGood l machines width me ≡ true → width ≤ l .cells
+unfolding sizesGood
+sizes-width l machines width me h =
+    let (a, b) = and-both (leb 1 machines) _ h in
+    let (c, d) = and-both (leb machines mostMachines) _ b in
+    let (e, f) = and-both (leb 1 width) _ d in
+    leb-true width (l .cells) (and-both (leb width (l .cells)) _ f .0)
+
 module _ (waiting issued done kept lost unheard : ℕ) where
   pub long-queue : mostQueued < waiting → false ≡ salesGood waiting issued done kept lost unheard
   unfolding salesGood

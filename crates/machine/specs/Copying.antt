@@ -45,7 +45,7 @@ copied l m position cells left = record {
 }
 
 -- a copy that can be one: its position, its number of cells, each cell, and how many it says are decided
-abbrev pub copyGood : Limits → Machine → ℕ → List ℕ → ℕ → Bool
+unfoldable pub copyGood : Limits → Machine → ℕ → List ℕ → ℕ → Bool
 copyGood l m position cells decided =
     leb position mostDecided &&
     (eqb (length cells) (m .width) && (counts cells (length cells) (l .held) && leb decided mostIssued))

@@ -77,7 +77,7 @@ abbrev pub ranAgreed : Limits → Machine → List ℕ → Came
 ranAgreed l m op = came (m .agreed) (outcome l (m .width) op (m .agreed))
 
 -- an own record is as issued here: it is the front of the queue, under its number
-abbrev pub asIssued : Machine → ℕ → List ℕ → Bool
+unfoldable pub asIssued : Machine → ℕ → List ℕ → Bool
 asIssued m number op =
     ltb 0 (m .waiting) && (eqb number (m .done) && sameBytes (unpacked (getD (m .queue) 0 nothing)) op)
 

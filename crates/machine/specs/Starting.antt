@@ -38,9 +38,12 @@ started l machines width me cells = record {
 abbrev pub zeroMachine : Limits → Machine
 zeroMachine l = started l 0 0 0 (replicate (l .cells) 0)
 
+abbrev pub badStart : Limits → Made
+badStart l = record { answer = BadStart; machine = zeroMachine l }
+
 -- 17 where a size, a first count or the own number is out of range
 unfoldable pub freshOf : Limits → ℕ → ℕ → List ℕ → Made
 freshOf l machines me first =
     if sizesGood l machines (length first) me && counts first (length first) (l .held)
     then record { answer = Done; machine = started l machines (length first) me (filled l first) }
-    else record { answer = BadStart; machine = zeroMachine l }
+    else badStart l

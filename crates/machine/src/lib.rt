@@ -14,7 +14,7 @@ ghost use Rattle.machine.specs.Starting.{freshOf};
 ghost use Rattle.machine.specs.Issuing.{issueOf, issueKnown};
 ghost use Rattle.machine.specs.Noting.{noteOf, noteKnown};
 ghost use Rattle.machine.specs.Asking.{askOf, askKnown, askedInto, askedKnown};
-ghost use Rattle.machine.specs.Recording.{recordOf, recordKnown};
+ghost use Rattle.machine.specs.Recording.{recordOf, recordKnown, asIssued};
 ghost use Rattle.machine.specs.Copying.{copyOf, copyKnown, copyGood};
 use answers::not_asked;
 use answers::not_copied;
@@ -22,10 +22,15 @@ use answers::not_issued;
 use answers::not_noted;
 use answers::not_taken;
 use basics::Answer;
+use basics::are_counts;
+use basics::index;
 use effect::Cells;
 use effect::Queue;
+use effect::cells_of;
 use operation::BYTES;
 use operation::HELD;
+use operation::keep::lay;
+use operation::keep::same;
 
 // What a machine holds: how many machines and cells there are and its own number; the agreed counts and how many records
 // it has taken in; its guess, and the sales that wait, the oldest first; how many it has issued and had decided, and how
@@ -98,6 +103,22 @@ impl Machine {
 
     pub const DECIDED: u64 = 40_000_000_000;
 
+    // A fresh machine: the first counts are its cells and its guess, and all else is 0.
+    pub fn fresh(machines: usize, me: usize, first: &[u32]) -> Made
+        ensures { λ r. ⌜ r ≡ freshOf limits machines me (now (first .entry)) ⌝ }
+    {
+        if !shape::sizes(machines, first.len(), me) {
+            return done::refuse_start();
+        }
+        if !are_counts(first, first.len(), HELD) {
+            return done::refuse_start();
+        }
+        Made {
+            answer: Answer::Done,
+            machine: done::start(machines, first.len(), me, cells_of(first)),
+        }
+    }
+
     // Issue: runs on the guess; if it succeeds, the operation waits under the next number.
     pub fn issue(self, op: &[u8]) -> Issued
         ensures { λ r. ⌜ r ≡ issueOf limits self (now (op .entry)) ⌝ }
@@ -149,6 +170,148 @@ impl Machine {
             return not_noted(Answer::NoSuchNote, self);
         }
         done::write(self, k, cell)
+    }
+
+    // Ask for waiting operation `j`, 0 the oldest: its number and length, and its bytes at the start of `buf`.
+    pub fn ask(self, j: usize, buf: &mut [u8]) -> Asked
+        ensures { λ r. ⌜ r ≡ askOf limits self j (length (now (buf .entry))) ⌝ }
+        ensures { λ _. ⌜ now (buf .exit) ≡ askedInto limits self j (now (buf .entry)) ⌝ }
+    {
+        if !self.shaped() {
+            return not_asked(Answer::OutOfShape);
+        }
+        self.ask_known(j, buf)
+    }
+
+    pub fn ask_known(self, j: usize, buf: &mut [u8]) -> Asked
+        requires { ⌜ shaped limits self ≡ true ⌝ }
+        ensures { λ r. ⌜ r ≡ askKnown limits self j (length (now (buf .entry))) ⌝ }
+        ensures { λ _. ⌜ now (buf .exit) ≡ askedKnown limits self j (now (buf .entry)) ⌝ }
+    {
+        if self.waiting <= j {
+            return not_asked(Answer::NoSuchWaiting);
+        }
+        if buf.len() < BYTES {
+            return not_asked(Answer::BufferTooShort);
+        }
+        let o = self.queue[j];
+        let bytes = o.bytes;
+        let len = index(o.len);
+        lay(bytes, len, buf);
+        Asked {
+            answer: Answer::Done,
+            number: self.done + j as u64,
+            len,
+        }
+    }
+
+    // Take in record `n`: operation `number` of machine `who`.
+    pub fn take_record(self, n: u64, who: usize, number: u64, op: &[u8]) -> Taken
+        ensures { λ r. ⌜ r ≡ recordOf limits self n who number (now (op .entry)) ⌝ }
+    {
+        if !self.shaped() {
+            return not_taken(Answer::OutOfShape, self);
+        }
+        if self.machines <= who {
+            return not_taken(Answer::OutOfRange, self);
+        }
+        if Machine::ISSUED <= number {
+            return not_taken(Answer::OutOfRange, self);
+        }
+        if Machine::DECIDED <= n {
+            return not_taken(Answer::OutOfRange, self);
+        }
+        if !operation::well_formed(op, self.width) {
+            return not_taken(Answer::Malformed, self);
+        }
+        self.take_record_known(n, who, number, op)
+    }
+
+    pub fn take_record_known(self, n: u64, who: usize, number: u64, op: &[u8]) -> Taken
+        requires { ⌜ (shaped limits self ≡ true) × (wellFormed limits (self .width) (now op) ≡ true) ⌝ }
+        ensures { λ r. ⌜ r ≡ recordKnown limits self n who number (now (op .entry)) ⌝ }
+    {
+        if n < self.position {
+            return not_taken(Answer::Old, self);
+        }
+        if self.position < n {
+            return not_taken(Answer::Early, self);
+        }
+        let mut agreed = self.agreed;
+        let ran = effect::run_known(op, self.width, &mut agreed);
+        if who != self.me {
+            return done::take_other(self, agreed);
+        }
+        if !self.as_issued(number, op) {
+            return not_taken(Answer::NotAsIssued, self);
+        }
+        done::take_own(self, agreed, ran.ok)
+    }
+
+    // Whether `op` is the front of the queue, under its number.
+    fn as_issued(self, number: u64, op: &[u8]) -> bool
+        requires { ⌜ shaped limits self ≡ true ⌝ }
+        ensures { λ r. ⌜ r ≡ asIssued self number (now (op .entry)) ⌝ }
+    {
+        if self.waiting < 1 {
+            return false;
+        }
+        if number != self.done {
+            return false;
+        }
+        let o = self.queue[0];
+        let bytes = o.bytes;
+        same(bytes, index(o.len), op)
+    }
+
+    // Take a fresh copy: the hub's position and cells, and how many operations of this machine it has decided.
+    pub fn take_copy(self, position: u64, cells: &[u32], decided: u64) -> Copied
+        ensures { λ r. ⌜ r ≡ copyOf limits self position (now (cells .entry)) decided ⌝ }
+    {
+        if !self.shaped() {
+            return not_copied(Answer::OutOfShape, self);
+        }
+        if !self.fits(position, cells, decided) {
+            return not_copied(Answer::BadCopy, self);
+        }
+        self.take_copy_known(position, cells, decided)
+    }
+
+    pub fn take_copy_known(self, position: u64, cells: &[u32], decided: u64) -> Copied
+        requires { ⌜ (shaped limits self ≡ true) × (copyGood limits self position (now cells) decided ≡ true) ⌝ }
+        ensures { λ r. ⌜ r ≡ copyKnown limits self position (now (cells .entry)) decided ⌝ }
+    {
+        if position <= self.position {
+            return not_copied(Answer::Old, self);
+        }
+        if decided < self.done {
+            return not_copied(Answer::NotAsIssued, self);
+        }
+        if self.issued < decided {
+            return not_copied(Answer::NotAsIssued, self);
+        }
+        done::copy(
+            self,
+            position,
+            cells_of(cells),
+            (decided - self.done) as usize,
+        )
+    }
+
+    // Whether a copy can be one.
+    fn fits(self, position: u64, cells: &[u32], decided: u64) -> bool
+        ensures { λ r. ⌜ r ≡ copyGood limits self position (now (cells .entry)) decided ⌝ }
+    {
+        if Machine::DECIDED < position {
+            return false;
+        }
+        if cells.len() != self.width {
+            return false;
+        }
+        if !are_counts(cells, cells.len(), HELD) {
+            return false;
+        }
+        decided <= Machine::ISSUED
     }
 
     // Whether the state is in good shape.

@@ -1,9 +1,9 @@
 -- Laws of being an operation: which tests decide it, and what it is where they hold. Assumes nothing.
-use Prim.Native.Nat.{ℕ, _≤_, _<_}
+use Prim.Native.Nat.{ℕ, zero, suc, _≤_, _<_}
 use native.Mathlib.Omega.{arith}
 use mathlib.Core.Path.{_≡_, refl, _∙_}
 use mathlib.Core.Bool.{Bool, true, false, _&&_, false≢true}
-use mathlib.Core.List.{List}
+use mathlib.Core.List.{List, []}
 use mathlib.Core.Option.{Option, some, none}
 use lib.Dec.{leb, eqb}
 use lib.ListN.{length}
@@ -11,8 +11,9 @@ use borrow.Author.Tests.{le-leb, lt-leb, leb-true, eqb-true}
 use Rattle.basics.specs.Choice.{if_then_else_}
 use Rattle.basics.proofs.Choice.{and-both, by-cases}
 use Rattle.operation.specs.Limits.{Limits}
+use Rattle.operation.specs.FirstBytes.{kindOf}
 use Rattle.operation.specs.Tree.{Op, opSize}
-use Rattle.operation.specs.Reading.{readOp, whole, operationOf, isSome, wellFormed}
+use Rattle.operation.specs.Reading.{readBody, readOp, whole, operationOf, isSome, wellFormed}
 use Rattle.operation.specs.Sizes.{sizeOf}
 use Rattle.operation.proofs.Reading.{none-some}
 use Rattle.operation.specs.declared.size.Size.the-variants.{Bytes, Malformed as NoSize}
@@ -99,3 +100,15 @@ module _ (l : Limits) (width : ℕ) (s : List ℕ) where
   pub is-op : (p : Op) → operationOf l width s ≡ some p → wellFormed l width s ≡ true
   unfolding wellFormed
   is-op p e = rw e
+
+-- no bytes are no operation
+pub no-bytes : (l : Limits) (width : ℕ) → wellFormed l width [] ≡ true → ⊥
+unfolding readOp readBody kindOf
+no-bytes l width h =
+    let p = op-of l width [] h in
+    let f = formed l width [] (p .0) (p .1) in
+    go (l .depth) (f .is-read)
+  where
+    go : (d : ℕ) {p : Op} → readOp l width d [] ≡ some p → ⊥
+    go zero e = none-some none _ refl e
+    go (suc d) e = none-some none _ refl e

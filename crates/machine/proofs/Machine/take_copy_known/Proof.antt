@@ -1,0 +1,65 @@
+use Rattle.machine.proofs.Copying.{good-width, copy-old, copy-below, copy-above, copy-done}
+use Rattle.machine.proofs.Queueing.{ready-rest}
+use Rattle.machine.proofs.InShape.{good}
+use mathlib.Core.Path.{sym, _∙_}
+use Rattle.operation.specs.Limits.{limits}
+use native.Mathlib.Omega.{arith}
+use borrow.Author.Needs.{needs}
+use Rattle.machine.proofs.Machine.take_copy_known.Statement.{statement}
+use Rattle.machine.proofs.Machine.take_copy_known.Tie as tie
+
+not-copied-requires : tie.Need-not-copied-requires
+not-copied-requires c κs = search needs
+
+returns : tie.Need-returns
+returns c = c .not-copied .ensures ∙ copy-old limits _ _ _ _ (omega arith)
+
+not-copied-requires-2 : tie.Need-not-copied-requires-2
+not-copied-requires-2 c κs = search needs
+
+returns-2 : tie.Need-returns-2
+returns-2 c = c .not-copied2 .ensures ∙ copy-below limits _ _ _ _ (omega arith) (omega arith)
+
+not-copied-requires-3 : tie.Need-not-copied-requires-3
+not-copied-requires-3 c κs = search needs
+
+returns-3 : tie.Need-returns-3
+returns-3 c = c .not-copied3 .ensures ∙ copy-above limits _ _ _ _ (omega arith) (omega arith) (omega arith)
+
+cells-of-requires : tie.Need-cells-of-requires
+cells-of-requires c κs = let r = c .before .before .before .before .before .before .before in
+    let w = good-width limits (r .args .self) (r .args .position) (r .args .cells .now) (r .args .decided) (r .pre .1) in
+    omega (arith, good limits (r .args .self) (r .pre .0) .width-most)
+
+copy-requires : tie.Need-copy-requires
+copy-requires c κs = let r = c .before .before .before .before .before .before .before .before .before in
+    let m = r .args .self in
+    let g = good limits m (r .pre .0) in
+    let q = g .queue-is in
+    let h = g .heard in
+    let i = g .issued-most in
+    let w = g .queue-most in
+    record {
+      most = omega arith;
+      there = omega arith;
+      decided = omega arith;
+      unheard = omega arith;
+      rest = ready-rest limits m g _ (omega arith);
+    }
+
+returns-4 : tie.Need-returns-4
+returns-4 c = c .copy .ensures ∙ copy-done limits _ _ _ _ (omega arith) (omega arith) _ (omega arith) (c .before .before .cells-of .ensures)
+
+pub take-copy-known-spec : {M : Type 1} → statement M
+take-copy-known-spec =
+    tie.close
+    (tie.spec
+    not-copied-requires
+    returns
+    not-copied-requires-2
+    returns-2
+    not-copied-requires-3
+    returns-3
+    cells-of-requires
+    copy-requires
+    returns-4)
