@@ -14,28 +14,40 @@ use Rattle.machine.specs.declared.Asked.{Asked}
 use Rattle.machine.specs.declared.Machine.{Machine}
 
 module _ (l : Limits) (m : Machine) (j : ℕ) (buf : List ℕ) where
-  pub ask-shape : shaped l m ≡ false → (notAsked OutOfShape ≡ askOf l m j (length buf)) × (buf ≡ askedInto l m j buf)
+  pub ask-shape :
+      shaped l m ≡ false → (notAsked OutOfShape ≡ askOf l m j (length buf)) × (buf ≡ askedInto l m j buf)
   unfolding askOf askedInto
   ask-shape h = (rw h, rw h)
 
-  pub ask-known : shaped l m ≡ true → (askKnown l m j (length buf) ≡ askOf l m j (length buf)) × (askedKnown l m j buf ≡ askedInto l m j buf)
+  pub ask-known :
+      shaped l m ≡ true →
+      (askKnown l m j (length buf) ≡ askOf l m j (length buf)) × (askedKnown l m j buf ≡ askedInto l m j buf)
   unfolding askOf askedInto
   ask-known h = (rw h, rw h)
 
-  pub no-waiting : m .waiting ≤ j → (notAsked NoSuchWaiting ≡ askKnown l m j (length buf)) × (buf ≡ askedKnown l m j buf)
+  pub no-waiting :
+      m .waiting ≤ j → (notAsked NoSuchWaiting ≡ askKnown l m j (length buf)) × (buf ≡ askedKnown l m j buf)
   unfolding askKnown askedKnown
   no-waiting h = (simp (le-leb (m .waiting) j h), simp (le-ltb j (m .waiting) h))
 
   module _ (a : j < m .waiting) where
-    pub too-short : length buf < l .bytes → (notAsked BufferTooShort ≡ askKnown l m j (length buf)) × (buf ≡ askedKnown l m j buf)
+    pub too-short :
+        length buf < l .bytes →
+        (notAsked BufferTooShort ≡ askKnown l m j (length buf)) × (buf ≡ askedKnown l m j buf)
     unfolding askKnown askedKnown
-    too-short h =
-        (simp (lt-leb (m .waiting) j a, lt-ltb (length buf) (l .bytes) h), simp (lt-ltb j (m .waiting) a, lt-leb (l .bytes) (length buf) h))
+    too-short h = (
+      simp (lt-leb (m .waiting) j a, lt-ltb (length buf) (l .bytes) h),
+      simp
+          (lt-ltb j (m .waiting) a, lt-leb (l .bytes) (length buf) h),
+    )
 
     pub is-asked :
         (len : ℕ) (after : List ℕ) → l .bytes ≤ length buf → len ≡ waitingAt m j .len →
         after ≡ over len (waitingAt m j .bytes) buf →
         (record { answer = Done; number = m .done + j; len = len } ≡ askKnown l m j (length buf)) × (after ≡ askedKnown l m j buf)
     unfolding askKnown askedKnown
-    is-asked len after h e f =
-        (rw e (simp (lt-leb (m .waiting) j a, le-ltb (length buf) (l .bytes) h)), rw (f, e) (simp (lt-ltb j (m .waiting) a, le-leb (l .bytes) (length buf) h)))
+    is-asked len after h e f = (
+      rw e (simp (lt-leb (m .waiting) j a, le-ltb (length buf) (l .bytes) h)),
+      rw (f, e)
+          (simp (lt-ltb j (m .waiting) a, le-leb (l .bytes) (length buf) h)),
+    )

@@ -22,11 +22,14 @@ module _ (l : Limits) (m : Machine) (position : ℕ) (cells : List ℕ) (decided
   copy-shape h = rw h
 
   module _ (in-shape : shaped l m ≡ true) where
-    pub copy-bad : copyGood l m position cells decided ≡ false → notCopied BadCopy m ≡ copyOf l m position cells decided
+    pub copy-bad :
+        copyGood l m position cells decided ≡ false → notCopied BadCopy m ≡ copyOf l m position cells decided
     unfolding copyOf
     copy-bad h = rw (in-shape, h)
 
-    pub copy-known : copyGood l m position cells decided ≡ true → copyKnown l m position cells decided ≡ copyOf l m position cells decided
+    pub copy-known :
+        copyGood l m position cells decided ≡ true →
+        copyKnown l m position cells decided ≡ copyOf l m position cells decided
     unfolding copyOf
     copy-known h = rw (in-shape, h)
 
@@ -45,13 +48,21 @@ module _ (l : Limits) (m : Machine) (position : ℕ) (cells : List ℕ) (decided
       unfolding copyGood
       large-cell h = simp (le-leb position mostDecided a, eq-eqb (length cells) (m .width) b, h)
 
-      pub by-decided : counts cells (length cells) (l .held) ≡ true → leb decided mostIssued ≡ copyGood l m position cells decided
+      pub by-decided :
+          counts cells (length cells) (l .held) ≡ true →
+          leb decided mostIssued ≡ copyGood l m position cells decided
       unfolding copyGood
       by-decided h = simp (le-leb position mostDecided a, eq-eqb (length cells) (m .width) b, h)
 
-  pub good-width : copyGood l m position cells decided ≡ true → length cells ≡ m .width
+  pub copy-facts :
+      copyGood l m position cells decided ≡ true →
+      (position ≤ mostDecided) × (length cells ≡ m .width) × (counts cells (length cells) (l .held) ≡ true)
   unfolding copyGood
-  good-width h = eqb-true _ _ (and-both (eqb (length cells) (m .width)) _ (and-both (leb position mostDecided) _ h .1) .0)
+  copy-facts h =
+      let (a, b) = and-both (leb position mostDecided) _ h in
+      let (d, e) = and-both (eqb (length cells) (m .width)) _ b in
+      let (f, g) = and-both (counts cells (length cells) (l .held)) _ e in
+      (leb-true position mostDecided a, eqb-true (length cells) (m .width) d, f)
 
   pub copy-old : position ≤ m .position → notCopied Old m ≡ copyKnown l m position cells decided
   unfolding copyKnown
@@ -65,10 +76,12 @@ module _ (l : Limits) (m : Machine) (position : ℕ) (cells : List ℕ) (decided
     module _ (b : m .done ≤ decided) where
       pub copy-above : m .issued < decided → notCopied NotAsIssued m ≡ copyKnown l m position cells decided
       unfolding copyKnown
-      copy-above h = simp (lt-leb position (m .position) a, le-ltb decided (m .done) b, lt-ltb (m .issued) decided h)
+      copy-above h =
+          simp (lt-leb position (m .position) a, le-ltb decided (m .done) b, lt-ltb (m .issued) decided h)
 
       pub copy-done :
           (full : List ℕ) → decided ≤ m .issued → full ≡ filled l cells →
           copied l m position full (decided - m .done) ≡ copyKnown l m position cells decided
       unfolding copyKnown
-      copy-done full h e = rw e (simp (lt-leb position (m .position) a, le-ltb decided (m .done) b, le-ltb (m .issued) decided h))
+      copy-done full h e =
+          rw e (simp (lt-leb position (m .position) a, le-ltb decided (m .done) b, le-ltb (m .issued) decided h))

@@ -38,11 +38,13 @@ module _ (l : Limits) (machines width me : ℕ) where
       module _ (c : 1 ≤ width) where
         pub many-cells : l .cells < width → false ≡ sizesGood l machines width me
         unfolding sizesGood
-        many-cells h = simp (le-leb 1 machines a, le-leb machines mostMachines b, le-leb 1 width c, lt-leb width (l .cells) h)
+        many-cells h =
+            simp (le-leb 1 machines a, le-leb machines mostMachines b, le-leb 1 width c, lt-leb width (l .cells) h)
 
         pub own-number : width ≤ l .cells → ltb me machines ≡ sizesGood l machines width me
         unfolding sizesGood
-        own-number h = simp (le-leb 1 machines a, le-leb machines mostMachines b, le-leb 1 width c, le-leb width (l .cells) h)
+        own-number h =
+            simp (le-leb 1 machines a, le-leb machines mostMachines b, le-leb 1 width c, le-leb width (l .cells) h)
 
 pub sizes-width : (l : Limits) (machines width me : ℕ) → sizesGood l machines width me ≡ true → width ≤ l .cells
 unfolding sizesGood
@@ -65,20 +67,36 @@ module _ (waiting issued done kept lost unheard : ℕ) where
     module _ (b : issued ≤ mostIssued) where
       pub not-waiting : (done + waiting ≡ issued → ⊥) → false ≡ salesGood waiting issued done kept lost unheard
       unfolding salesGood
-      not-waiting h = simp (le-leb waiting mostQueued a, le-leb issued mostIssued b, ne-eqb (done + waiting) issued h)
+      not-waiting h =
+          simp (le-leb waiting mostQueued a, le-leb issued mostIssued b, ne-eqb (done + waiting) issued h)
 
       module _ (c : done + waiting ≡ issued) where
-        pub not-heard : (kept + (lost + unheard) ≡ done → ⊥) → false ≡ salesGood waiting issued done kept lost unheard
+        pub not-heard :
+            (kept + (lost + unheard) ≡ done → ⊥) → false ≡ salesGood waiting issued done kept lost unheard
         unfolding salesGood
-        not-heard h = simp (le-leb waiting mostQueued a, le-leb issued mostIssued b, eq-eqb (done + waiting) issued c, ne-eqb (kept + (lost + unheard)) done h)
+        not-heard h =
+            simp (
+              le-leb waiting mostQueued a,
+              le-leb issued mostIssued b,
+              eq-eqb (done + waiting) issued c,
+              ne-eqb
+                  (kept + (lost + unheard)) done h,
+            )
 
-        pub last-heard : kept + lost ≤ done → eqb unheard (done - kept - lost) ≡ salesGood waiting issued done kept lost unheard
+        pub last-heard :
+            kept + lost ≤ done → eqb unheard (done - kept - lost) ≡ salesGood waiting issued done kept lost unheard
         unfolding salesGood
-        last-heard h = simp (le-leb waiting mostQueued a, le-leb issued mostIssued b, eq-eqb (done + waiting) issued c) (go (eqb unheard (done - kept - lost)) refl)
+        last-heard h =
+            simp (le-leb waiting mostQueued a, le-leb issued mostIssued b, eq-eqb (done + waiting) issued c)
+            (go (eqb unheard (done - kept - lost)) refl)
           where
             go : (t : Bool) → eqb unheard (done - kept - lost) ≡ t → t ≡ eqb (kept + (lost + unheard)) done
-            go true e = let u : unheard ≡ done - kept - lost = eqb-true unheard (done - kept - lost) e in sym (eq-eqb (kept + (lost + unheard)) done (omega arith))
-            go false e = let u : unheard ≡ done - kept - lost → ⊥ = eqb-false unheard (done - kept - lost) e in sym (ne-eqb (kept + (lost + unheard)) done (λ q. u (omega arith)))
+            go true e =
+                let u : unheard ≡ done - kept - lost = eqb-true unheard (done - kept - lost) e in
+                sym (eq-eqb (kept + (lost + unheard)) done (omega arith))
+            go false e =
+                let u : unheard ≡ done - kept - lost → ⊥ = eqb-false unheard (done - kept - lost) e in
+                sym (ne-eqb (kept + (lost + unheard)) done (λ q. u (omega arith)))
 
 -- a place of the queue
 module _ (l : Limits) (width waiting i : ℕ) (o : Packed) where

@@ -42,9 +42,19 @@ module _ (l : Limits) (m : Machine) (op : List ℕ) where
       pub known-fails : q .ok ≡ false → notIssued FailsOnGuess m ≡ issueKnown l m op
       unfolding issueKnown
       known-fails h =
-          simp (lt-leb mostQueued (m .waiting) a, lt-leb mostIssued (m .issued) b, came-none (m .guess) q (outcome l (m .width) op (m .guess)) ran h .0)
+          simp (
+            lt-leb mostQueued (m .waiting) a,
+            lt-leb mostIssued (m .issued) b,
+            came-none (m .guess) q
+                (outcome l (m .width) op (m .guess)) ran h .0,
+          )
 
       pub known-sold : q .ok ≡ true → sold l m op (q .cells) ≡ issueKnown l m op
       unfolding issueKnown
       known-sold h =
-          simp (lt-leb mostQueued (m .waiting) a, lt-leb mostIssued (m .issued) b, came-some (m .guess) q (outcome l (m .width) op (m .guess)) ran h)
+          simp (
+            lt-leb mostQueued (m .waiting) a,
+            lt-leb mostIssued (m .issued) b,
+            came-some (m .guess) q
+                (outcome l (m .width) op (m .guess)) ran h,
+          )

@@ -7,3 +7,4 @@ pub mod Noting
 pub mod Asking
 pub mod Recording
 pub mod Copying
+pub mod Keeping

@@ -5,7 +5,18 @@ use mathlib.Core.Bool.{Bool, true, false, _&&_}
 use mathlib.Core.List.{List, [], _++_}
 use mathlib.Core.Path.{_≡_, refl, sym, ap, _∙_}
 use lib.Dec.{leb}
-use lib.ListN.{length, getD, take, drop, replicate, length-replicate, length-drop, replicate-append-replicate, List·getD-eq-default, List·getD-append}
+use lib.ListN.{
+  length,
+  getD,
+  take,
+  drop,
+  replicate,
+  length-replicate,
+  length-drop,
+  replicate-append-replicate,
+  List·getD-eq-default,
+  List·getD-append,
+}
 use lib.Seq.{take-all, drop-at, getD-drop}
 use borrow.Author.Tests.{lt-ltb, leb-true, leb-false}
 use Rattle.basics.specs.Over.{over}
@@ -24,25 +35,38 @@ use Rattle.machine.specs.declared.Machine.{Machine}
 use Rattle.machine.proofs.InShape.{Good}
 
 drop-replicate : {A : Type 0} (a : A) (k n : ℕ) → drop k (replicate (k + n) a) ≡ replicate n a
-drop-replicate a k n = rw (← (replicate-append-replicate k n a)) (drop-at (replicate k a) (replicate n a) k (length-replicate k a))
+drop-replicate a k n =
+    rw (← (replicate-append-replicate k n a)) (drop-at (replicate k a) (replicate n a) k (length-replicate k a))
 
 -- a loop that has moved all that are left
-pub advance-end : (l : Limits) (n : ℕ) (queue : List Packed) → n ≤ mostQueued → length queue ≡ mostQueued → over (mostQueued - n) (drop n queue) (replicate mostQueued (empty l)) ≡ advanced l n queue
+pub advance-end :
+    (l : Limits) (n : ℕ) (queue : List Packed) → n ≤ mostQueued → length queue ≡ mostQueued →
+    over (mostQueued - n) (drop n queue) (replicate mostQueued (empty l)) ≡ advanced l n queue
 unfolding advanced
 advance-end l n queue h e =
     let k : mostQueued - n + n ≡ mostQueued = omega arith in
-    let d : drop (mostQueued - n) (replicate mostQueued (empty l)) ≡ replicate n (empty l) = rw k at (drop-replicate (empty l) (mostQueued - n) n) in
+    let d : drop (mostQueued - n) (replicate mostQueued (empty l)) ≡ replicate n (empty l) = rw k at
+    (drop-replicate (empty l) (mostQueued - n) n) in
     rw (take-all (mostQueued - n) (drop n queue) (simp length-drop (omega arith)), d)
 
 -- a place of the queue that is full holds a sound operation
-pub place-sound : (l : Limits) (width waiting i : ℕ) (o : Packed) → i < waiting → placeGood l width waiting i o ≡ true → Sound l width o
+pub place-sound :
+    (l : Limits) (width waiting i : ℕ) (o : Packed) → i < waiting → placeGood l width waiting i o ≡ true →
+    Sound l width o
 unfolding placeGood
 place-sound l width waiting i o h e =
-    let w : leb (o .len) (l .bytes) && (wellFormed l width (unpacked o) && zerosFrom (o .bytes) (o .len)) ≡ true = rw (lt-ltb i waiting h) at e in
-    record { fits = leb-true (o .len) (l .bytes) (and-both (leb (o .len) (l .bytes)) _ w .0); formed = and-both (wellFormed l width (unpacked o)) _ (and-both (leb (o .len) (l .bytes)) _ w .1) .0 }
+    let w : leb (o .len) (l .bytes) && (wellFormed l width (unpacked o) && zerosFrom (o .bytes) (o .len)) ≡ true =
+    rw (lt-ltb i waiting h) at e in
+    record {
+      fits =
+          leb-true (o .len) (l .bytes) (and-both (leb (o .len) (l .bytes)) _ w .0);
+      formed = and-both
+          (wellFormed l width (unpacked o)) _ (and-both (leb (o .len) (l .bytes)) _ w .1) .0;
+    }
 
 -- and stands in the queue
-pub sound-there : (l : Limits) (width : ℕ) (queue : List Packed) (i : ℕ) → Sound l width (getD queue i nothing) → i < length queue
+pub sound-there :
+    (l : Limits) (width : ℕ) (queue : List Packed) (i : ℕ) → Sound l width (getD queue i nothing) → i < length queue
 sound-there l width queue i s = go (leb (length queue) i) refl
   where
     go : (t : Bool) → leb (length queue) i ≡ t → i < length queue
@@ -55,16 +79,19 @@ module _ (l : Limits) (m : Machine) (g : Good l m) where
   pub sound-at : (i : ℕ) → i < m .waiting → Sound l (m .width) (getD (m .queue) i nothing)
   sound-at i h =
       place-sound l (m .width) (m .waiting) i (getD (m .queue) i nothing) h
-      (every-at (λ j. placeGood l (m .width) (m .waiting) j (getD (m .queue) j nothing)) mostQueued i (g .places) (omega (arith, g .queue-most)))
+      (every-at (λ j. placeGood l (m .width) (m .waiting) j (getD (m .queue) j nothing)) mostQueued i (g .places)
+      (omega (arith, g .queue-most)))
 
   pub ready : Ready l (m .width) (m .waiting) (m .queue)
   ready = record { there = g .queue-most; sound = sound-at }
 
-  pub moved-up : (n i : ℕ) → n + i < m .waiting → getD (advanced l n (m .queue)) i nothing ≡ getD (m .queue) (n + i) nothing
+  pub moved-up :
+      (n i : ℕ) → n + i < m .waiting → getD (advanced l n (m .queue)) i nothing ≡ getD (m .queue) (n + i) nothing
   unfolding advanced
   moved-up n i h =
       let there = sound-there l (m .width) (m .queue) (n + i) (sound-at (n + i) h) in
-      List·getD-append (drop n (m .queue)) (replicate n (empty l)) nothing i (simp length-drop (omega arith)) ∙ getD-drop n (m .queue) i nothing
+      List·getD-append (drop n (m .queue)) (replicate n (empty l)) nothing i (simp length-drop (omega arith)) ∙
+      getD-drop n (m .queue) i nothing
 
   pub ready-rest : (n : ℕ) → n ≤ m .waiting → Ready l (m .width) (m .waiting - n) (advanced l n (m .queue))
   ready-rest n h = record {

@@ -15,7 +15,15 @@ use Rattle.operation.specs.Reading.{wellFormed}
 use Rattle.effect.specs.Running.{Came}
 use Rattle.machine.specs.Numbers.{mostIssued, mostDecided}
 use Rattle.machine.specs.Shape.{shaped}
-use Rattle.machine.specs.Recording.{notTaken, ownTaken, otherTaken, ranAgreed, asIssued, recordKnown, recordOf}
+use Rattle.machine.specs.Recording.{
+  notTaken,
+  ownTaken,
+  otherTaken,
+  ranAgreed,
+  asIssued,
+  recordKnown,
+  recordOf,
+}
 use Rattle.machine.specs.declared.Machine.{Machine}
 
 module _ (l : Limits) (m : Machine) (n who number : ℕ) (op : List ℕ) where
@@ -36,16 +44,21 @@ module _ (l : Limits) (m : Machine) (n who number : ℕ) (op : List ℕ) where
       module _ (b : number < mostIssued) where
         pub no-record : mostDecided ≤ n → notTaken OutOfRange m ≡ recordOf l m n who number op
         unfolding recordOf
-        no-record h = simp (in-shape, lt-ltb who (m .machines) a, lt-ltb number mostIssued b, le-ltb n mostDecided h)
+        no-record h =
+            simp (in-shape, lt-ltb who (m .machines) a, lt-ltb number mostIssued b, le-ltb n mostDecided h)
 
         module _ (d : n < mostDecided) where
-          pub record-malformed : wellFormed l (m .width) op ≡ false → notTaken Malformed m ≡ recordOf l m n who number op
+          pub record-malformed :
+              wellFormed l (m .width) op ≡ false → notTaken Malformed m ≡ recordOf l m n who number op
           unfolding recordOf
-          record-malformed h = simp (in-shape, lt-ltb who (m .machines) a, lt-ltb number mostIssued b, lt-ltb n mostDecided d, h)
+          record-malformed h =
+              simp (in-shape, lt-ltb who (m .machines) a, lt-ltb number mostIssued b, lt-ltb n mostDecided d, h)
 
-          pub record-known : wellFormed l (m .width) op ≡ true → recordKnown l m n who number op ≡ recordOf l m n who number op
+          pub record-known :
+              wellFormed l (m .width) op ≡ true → recordKnown l m n who number op ≡ recordOf l m n who number op
           unfolding recordOf
-          record-known h = simp (in-shape, lt-ltb who (m .machines) a, lt-ltb number mostIssued b, lt-ltb n mostDecided d, h)
+          record-known h =
+              simp (in-shape, lt-ltb who (m .machines) a, lt-ltb number mostIssued b, lt-ltb n mostDecided d, h)
 
   pub is-old : n < m .position → notTaken Old m ≡ recordKnown l m n who number op
   unfolding recordKnown
@@ -57,7 +70,9 @@ module _ (l : Limits) (m : Machine) (n who number : ℕ) (op : List ℕ) where
     is-early h = simp (le-ltb n (m .position) e, lt-ltb (m .position) n h)
 
     module _ (f : n ≤ m .position) where
-      pub is-other : (q : Came) → (who ≡ m .me → ⊥) → q ≡ ranAgreed l m op → otherTaken l m (q .cells) ≡ recordKnown l m n who number op
+      pub is-other :
+          (q : Came) → (who ≡ m .me → ⊥) → q ≡ ranAgreed l m op →
+          otherTaken l m (q .cells) ≡ recordKnown l m n who number op
       unfolding recordKnown
       is-other q h r = rw r (simp (le-ltb n (m .position) e, le-ltb (m .position) n f, ne-eqb who (m .me) h))
 
@@ -66,7 +81,9 @@ module _ (l : Limits) (m : Machine) (n who number : ℕ) (op : List ℕ) where
         unfolding recordKnown
         is-not-issued h = simp (le-ltb n (m .position) e, le-ltb (m .position) n f, eq-eqb who (m .me) own, h)
 
-        pub is-own : (q : Came) → asIssued m number op ≡ true → q ≡ ranAgreed l m op → ownTaken l m q ≡ recordKnown l m n who number op
+        pub is-own :
+            (q : Came) → asIssued m number op ≡ true → q ≡ ranAgreed l m op →
+            ownTaken l m q ≡ recordKnown l m n who number op
         unfolding recordKnown
         is-own q h r = rw r (simp (le-ltb n (m .position) e, le-ltb (m .position) n f, eq-eqb who (m .me) own, h))
 
@@ -81,7 +98,9 @@ module _ (m : Machine) (number : ℕ) (op : List ℕ) where
     unfolding asIssued
     other-number h = simp (lt-ltb 0 (m .waiting) a, ne-eqb number (m .done) h)
 
-    pub by-bytes : (r : Bool) → number ≡ m .done → r ≡ sameBytes (unpacked (getD (m .queue) 0 nothing)) op → r ≡ asIssued m number op
+    pub by-bytes :
+        (r : Bool) → number ≡ m .done → r ≡ sameBytes (unpacked (getD (m .queue) 0 nothing)) op →
+        r ≡ asIssued m number op
     unfolding asIssued
     by-bytes r h e = rw e (simp (lt-ltb 0 (m .waiting) a, eq-eqb number (m .done) h))
 

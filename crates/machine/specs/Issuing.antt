@@ -7,7 +7,14 @@ use lib.Dec.{leb}
 use lib.ListN.{set}
 use Rattle.basics.specs.Choice.{if_then_else_}
 use Rattle.basics.specs.declared.Answer.{Answer}
-use Rattle.basics.specs.declared.Answer.the-variants.{Done, OutOfShape, Malformed, QueueFull, AllIssued, FailsOnGuess}
+use Rattle.basics.specs.declared.Answer.the-variants.{
+  Done,
+  OutOfShape,
+  Malformed,
+  QueueFull,
+  AllIssued,
+  FailsOnGuess,
+}
 use Rattle.operation.specs.Limits.{Limits}
 use Rattle.operation.specs.Packing.{packed}
 use Rattle.operation.specs.Reading.{wellFormed}

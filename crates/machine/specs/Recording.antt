@@ -6,7 +6,15 @@ use lib.Dec.{ltb, eqb}
 use lib.ListN.{getD}
 use Rattle.basics.specs.Choice.{if_then_else_}
 use Rattle.basics.specs.declared.Answer.{Answer}
-use Rattle.basics.specs.declared.Answer.the-variants.{Done, OutOfShape, OutOfRange, Malformed, Old, Early, NotAsIssued}
+use Rattle.basics.specs.declared.Answer.the-variants.{
+  Done,
+  OutOfShape,
+  OutOfRange,
+  Malformed,
+  Old,
+  Early,
+  NotAsIssued,
+}
 use Rattle.operation.specs.Limits.{Limits}
 use Rattle.operation.specs.Packing.{unpacked, nothing, sameBytes}
 use Rattle.operation.specs.Reading.{wellFormed}

@@ -1,17 +1,18 @@
 -- Laws of an operation that is kept. Assumes nothing.
-use Prim.Native.Nat.{ℕ, _≤_, _<_, _+_, _-_}
-use native.Mathlib.Nat.{add-comm}
+use Prim.Native.Nat.{ℕ, zero, suc, _≤_, _+_, _-_, zero-le}
 use native.Mathlib.Omega.{arith}
 use mathlib.Core.Bool.{Bool, true, false, _&&_, true≢false, false≢true}
 use mathlib.Core.List.{List, [], _∷_, _++_}
 use mathlib.Core.Path.{_≡_, refl, sym, ap, _∙_}
-use lib.Dec.{eqb}
+use lib.Dec.{ltb, eqb}
 use lib.ListN.{length, getD, take, drop, replicate, length-replicate, getD-replicate, List·getD-eq-default}
 use lib.Seq.{take-length, take-append-seam, getD-append-add, getD-drop}
-use borrow.Author.Tests.{eq-eqb, eqb-true}
+use borrow.Author.Tests.{le-ltb, eq-eqb, eqb-true, ltb-false}
 use Rattle.basics.specs.Over.{over}
 use Rattle.basics.specs.Counts.{zeroAt, zerosFrom}
+use Rattle.basics.specs.Choice.{if_then_else_}
 use Rattle.basics.proofs.Choice.{and-both}
+use Rattle.basics.proofs.Every.{every-all}
 use Rattle.operation.specs.Limits.{Limits}
 use Rattle.operation.specs.Packing.{unpacked, packed, sameBytes}
 
@@ -38,7 +39,42 @@ same-test false s t h = go (sameBytes s t) refl
     go true e = absurd (false≢true (h .1 (same-is s t e)))
     go false e = refl
 
+pub len-packed : (l : Limits) (s : List ℕ) → packed l s .len ≡ length s
+unfolding packed
+len-packed l s = refl
+
 -- what was packed is unpacked
 pub unpacked-packed : (l : Limits) (s : List ℕ) → unpacked (packed l s) ≡ s
 unfolding packed
 unpacked-packed l s = rw take-length (take-append-seam s (drop (length s) (replicate (l .bytes) 0)))
+
+-- zeros are 0 everywhere
+pub all-zero : (n i : ℕ) → _≡_ {A = ℕ} (getD (replicate n 0) i 0) 0
+all-zero zero i = refl
+all-zero (suc n) zero = refl
+all-zero (suc n) (suc i) = all-zero n i
+
+pub zeros-are : (n : ℕ) → zerosFrom (replicate n 0) 0 ≡ true
+unfolding zerosFrom
+zeros-are n =
+    every-all (zeroAt (replicate n 0) 0) (length (replicate n 0)) (λ i h. simp (le-ltb i 0 zero-le, all-zero n i))
+
+-- and zeros follow its bytes
+pub packed-zeros : (l : Limits) (s : List ℕ) → zerosFrom (packed l s .bytes) (length s) ≡ true
+unfolding packed zerosFrom
+packed-zeros l s = every-all (zeroAt bytes (length s)) (length bytes) (λ i h. go i (ltb i (length s)) refl)
+  where
+    bytes : List ℕ
+    bytes = over (length s) s (replicate (l .bytes) 0)
+
+    zero-at : (i : ℕ) → length s ≤ i → getD bytes i 0 ≡ 0
+    zero-at i h =
+        let k : length s + (i - length s) ≡ i = omega arith in
+        let e = getD-append-add s (drop (length s) (replicate (l .bytes) 0)) (i - length s) 0 in
+        rw take-length (rw k at e) ∙
+        (getD-drop (length s) (replicate (l .bytes) 0) (i - length s) 0 ∙ all-zero (l .bytes)
+        (length s + (i - length s)))
+
+    go : (i : ℕ) (t : Bool) → ltb i (length s) ≡ t → (if t then true else eqb (getD bytes i 0) 0) ≡ true
+    go i true e = refl
+    go i false e = eq-eqb (getD bytes i 0) 0 (zero-at i (ltb-false i (length s) e))

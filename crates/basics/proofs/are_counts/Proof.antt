@@ -33,7 +33,10 @@ returns : tie.Need-returns Inv-loop μ-loop
 unfolding counts
 returns c =
     let a = c .before .before .before .before .before .before .args in
-    sym (every-stops (countAt (a .xs .now) (a .n) (a .most)) (length (a .xs .now)) (c .before .before .before .before .loop .i) (omega arith) (sym (c .before .is-count .ensures) ∙ not-true _ (c .if1 .taken)))
+    sym
+    (every-stops (countAt (a .xs .now) (a .n) (a .most)) (length (a .xs .now))
+    (c .before .before .before .before .loop .i) (omega arith)
+    (sym (c .before .is-count .ensures) ∙ not-true _ (c .if1 .taken)))
 
 add-i : tie.Need-add-i Inv-loop μ-loop
 add-i c = search needs
@@ -42,14 +45,19 @@ loop-less : tie.Need-loop-less Inv-loop μ-loop
 loop-less c = search needs
 
 loop-again : tie.Need-loop-again Inv-loop μ-loop
-loop-again c = let a = c .before .before .before .before .before .before .args in
-    (search needs, every-more (countAt (a .xs .now) (a .n) (a .most)) _ (c .before .before .before .before .loop .inv .1) (sym (c .before .is-count .ensures) ∙ not-false _ (c .if1 .left)))
+loop-again c = let a = c .before .before .before .before .before .before .args in (
+  search needs,
+  every-more (countAt (a .xs .now) (a .n) (a .most)) _
+      (c .before .before .before .before .loop .inv .1)
+      (sym (c .before .is-count .ensures) ∙ not-false _ (c .if1 .left)),
+)
 
 returns-2 : tie.Need-returns-2 Inv-loop μ-loop
 unfolding counts
 returns-2 c =
     let a = c .before .before .before .args in
-    every-end (countAt (a .xs .now) (a .n) (a .most)) (length (a .xs .now)) (c .before .loop .i) (omega arith) (omega arith) (c .before .loop .inv .1)
+    every-end (countAt (a .xs .now) (a .n) (a .most)) (length (a .xs .now)) (c .before .loop .i) (omega arith)
+    (omega arith) (c .before .loop .inv .1)
 
 pub are-counts-spec : {M : Type 1} → statement M
 are-counts-spec =

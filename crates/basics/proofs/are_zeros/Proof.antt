@@ -30,7 +30,9 @@ returns : tie.Need-returns Inv-loop μ-loop
 unfolding zerosFrom
 returns c =
     let a = c .before .before .before .before .before .before .args in
-    sym (every-stops (zeroAt (a .xs .now) (a .n)) (length (a .xs .now)) (c .before .before .before .before .loop .i) (omega arith) (sym (c .before .is-zero .ensures) ∙ not-true _ (c .if1 .taken)))
+    sym
+    (every-stops (zeroAt (a .xs .now) (a .n)) (length (a .xs .now)) (c .before .before .before .before .loop .i)
+    (omega arith) (sym (c .before .is-zero .ensures) ∙ not-true _ (c .if1 .taken)))
 
 add-i : tie.Need-add-i Inv-loop μ-loop
 add-i c = search needs
@@ -39,14 +41,18 @@ loop-less : tie.Need-loop-less Inv-loop μ-loop
 loop-less c = search needs
 
 loop-again : tie.Need-loop-again Inv-loop μ-loop
-loop-again c = let a = c .before .before .before .before .before .before .args in
-    (search needs, every-more (zeroAt (a .xs .now) (a .n)) _ (c .before .before .before .before .loop .inv .1) (sym (c .before .is-zero .ensures) ∙ not-false _ (c .if1 .left)))
+loop-again c = let a = c .before .before .before .before .before .before .args in (
+  search needs,
+  every-more (zeroAt (a .xs .now) (a .n)) _ (c .before .before .before .before .loop .inv .1)
+      (sym (c .before .is-zero .ensures) ∙ not-false _ (c .if1 .left)),
+)
 
 returns-2 : tie.Need-returns-2 Inv-loop μ-loop
 unfolding zerosFrom
 returns-2 c =
     let a = c .before .before .before .args in
-    every-end (zeroAt (a .xs .now) (a .n)) (length (a .xs .now)) (c .before .loop .i) (omega arith) (omega arith) (c .before .loop .inv .1)
+    every-end (zeroAt (a .xs .now) (a .n)) (length (a .xs .now)) (c .before .loop .i) (omega arith) (omega arith)
+    (c .before .loop .inv .1)
 
 pub are-zeros-spec : {M : Type 1} → statement M
 are-zeros-spec =

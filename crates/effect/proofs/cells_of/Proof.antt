@@ -38,8 +38,11 @@ loop-less c = search needs
 
 loop-again : tie.Need-loop-again Inv-loop μ-loop
 loop-again c = let a = c .before .before .before in
-    let loop = c .before .before .loop in
-    (search needs, ap (λ b. set b (loop .i) (getD (a .args .first .now) (loop .i) 0)) (loop .inv .1) ∙ over-more (a .args .first .now) (replicate 64 0) 0 (loop .i) (omega arith) (omega (arith, a .pre)))
+    let loop = c .before .before .loop in (
+      search needs,
+      ap (λ b. set b (loop .i) (getD (a .args .first .now) (loop .i) 0)) (loop .inv .1) ∙ over-more
+          (a .args .first .now) (replicate 64 0) 0 (loop .i) (omega arith) (omega (arith, a .pre)),
+    )
 
 returns : tie.Need-returns Inv-loop μ-loop
 unfolding filled

@@ -52,7 +52,8 @@ same-length c = search needs
 
 returns-3 : tie.Need-returns-3
 returns-3 c = let r = c .before .before .before .before .before .before .before .before .before .before in
-    is-asked limits (r .args .t1) (r .args .j) (r .args .buf .now) (omega arith) _ _ (omega arith) (c .before .before .before .before .index .ensures) (c .before .before .lay .ensures)
+    is-asked limits (r .args .t1) (r .args .j) (r .args .buf .now) (omega arith) _ _ (omega arith)
+    (c .before .before .before .before .index .ensures) (c .before .before .lay .ensures)
 
 pub ask-known-spec : {M : Type 1} → statement M
 ask-known-spec =

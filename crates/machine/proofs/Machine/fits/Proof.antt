@@ -17,10 +17,14 @@ are-counts-requires : tie.Need-are-counts-requires
 are-counts-requires c κs = search needs
 
 returns-3 : tie.Need-returns-3
-returns-3 c = large-cell limits _ _ _ _ (omega arith) (omega arith) (sym (c .before .are-counts .ensures) ∙ not-true _ (c .if3 .taken))
+returns-3 c =
+    large-cell limits _ _ _ _ (omega arith) (omega arith)
+    (sym (c .before .are-counts .ensures) ∙ not-true _ (c .if3 .taken))
 
 returns-4 : tie.Need-returns-4
-returns-4 c = by-decided limits _ _ _ _ (omega arith) (omega arith) (sym (c .before .are-counts .ensures) ∙ not-false _ (c .if3 .left))
+returns-4 c =
+    by-decided limits _ _ _ _ (omega arith) (omega arith)
+    (sym (c .before .are-counts .ensures) ∙ not-false _ (c .if3 .left))
 
 pub fits-spec : {M : Type 1} → statement M
 fits-spec = tie.close (tie.spec returns returns-2 are-counts-requires returns-3 returns-4)

@@ -15,7 +15,9 @@ refuse-start-requires : tie.Need-refuse-start-requires
 refuse-start-requires c κs = search needs
 
 returns : tie.Need-returns
-returns c = c .refuse-start .ensures ∙ bad-sizes limits _ _ _ (sym (c .before .before .sizes .ensures) ∙ not-true _ (c .before .if1 .taken))
+returns c =
+    c .refuse-start .ensures ∙ bad-sizes limits _ _ _
+    (sym (c .before .before .sizes .ensures) ∙ not-true _ (c .before .if1 .taken))
 
 are-counts-requires : tie.Need-are-counts-requires
 are-counts-requires c κs = search needs
@@ -24,16 +26,27 @@ refuse-start-requires-2 : tie.Need-refuse-start-requires-2
 refuse-start-requires-2 c κs = search needs
 
 returns-2 : tie.Need-returns-2
-returns-2 c = c .refuse-start2 .ensures ∙ bad-counts limits _ _ _ (sym (c .before .before .before .before .sizes .ensures) ∙ not-false _ (c .before .before .before .if1 .left)) (sym (c .before .before .are-counts .ensures) ∙ not-true _ (c .before .if2 .taken))
+returns-2 c =
+    c .refuse-start2 .ensures ∙ bad-counts limits _ _ _
+    (sym (c .before .before .before .before .sizes .ensures) ∙ not-false _ (c .before .before .before .if1 .left))
+    (sym (c .before .before .are-counts .ensures) ∙ not-true _ (c .before .if2 .taken))
 
 cells-of-requires : tie.Need-cells-of-requires
-cells-of-requires c κs = let a = c .before .before .before .before .before .args in sizes-width limits (a .machines) _ (a .me) (sym (c .before .before .before .sizes .ensures) ∙ not-false _ (c .before .before .if1 .left))
+cells-of-requires c κs =
+    let a = c .before .before .before .before .before .args in
+    sizes-width limits (a .machines) _ (a .me)
+    (sym (c .before .before .before .sizes .ensures) ∙ not-false _ (c .before .before .if1 .left))
 
 start-requires : tie.Need-start-requires
 start-requires c κs = search needs
 
 returns-3 : tie.Need-returns-3
-returns-3 c = good-start limits _ _ _ (sym (c .before .before .before .before .before .sizes .ensures) ∙ not-false _ (c .before .before .before .before .if1 .left)) _ (sym (c .before .before .before .are-counts .ensures) ∙ not-false _ (c .before .before .if2 .left)) (rw (c .before .cells-of .ensures) at (c .start .ensures))
+returns-3 c =
+    good-start limits _ _ _
+    (sym (c .before .before .before .before .before .sizes .ensures) ∙ not-false _
+    (c .before .before .before .before .if1 .left))
+    _ (sym (c .before .before .before .are-counts .ensures) ∙ not-false _ (c .before .before .if2 .left))
+    (rw (c .before .cells-of .ensures) at (c .start .ensures))
 
 pub fresh-spec : {M : Type 1} → statement M
 fresh-spec =

@@ -27,7 +27,9 @@ not-issued-requires-3 : tie.Need-not-issued-requires-3
 not-issued-requires-3 c κs = search needs
 
 returns-3 : tie.Need-returns-3
-returns-3 c = c .not-issued3 .ensures ∙ known-fails limits _ _ (omega arith) (omega arith) _ (c .before .before .before .run-known .ensures) (not-true _ (c .before .if3 .taken))
+returns-3 c =
+    c .not-issued3 .ensures ∙ known-fails limits _ _ (omega arith) (omega arith) _
+    (c .before .before .before .run-known .ensures) (not-true _ (c .before .if3 .taken))
 
 sell-requires : tie.Need-sell-requires
 sell-requires c κs = let r = c .before .before .before .before .before .before .before .before .before .before in
@@ -35,7 +37,9 @@ sell-requires c κs = let r = c .before .before .before .before .before .before 
     (search needs, (search needs, formed limits (r .args .self .width) (r .args .op .now) (p .0) (p .1) .bytes))
 
 returns-4 : tie.Need-returns-4
-returns-4 c = c .sell .ensures ∙ known-sold limits _ _ (omega arith) (omega arith) _ (c .before .before .before .run-known .ensures) (not-false _ (c .before .if3 .left))
+returns-4 c =
+    c .sell .ensures ∙ known-sold limits _ _ (omega arith) (omega arith) _
+    (c .before .before .before .run-known .ensures) (not-false _ (c .before .if3 .left))
 
 pub issue-known-spec : {M : Type 1} → statement M
 issue-known-spec =

@@ -13,13 +13,17 @@ not-noted-requires : tie.Need-not-noted-requires
 not-noted-requires c κs = search needs
 
 returns : tie.Need-returns
-returns c = c .not-noted .ensures ∙ note-shape limits _ _ _ (sym (c .before .before .shaped .ensures) ∙ not-true _ (c .before .if1 .taken))
+returns c =
+    c .not-noted .ensures ∙ note-shape limits _ _ _
+    (sym (c .before .before .shaped .ensures) ∙ not-true _ (c .before .if1 .taken))
 
 note-known-requires : tie.Need-note-known-requires
 note-known-requires c κs = sym (c .before .shaped .ensures) ∙ not-false _ (c .if1 .left)
 
 returns-2 : tie.Need-returns-2
-returns-2 c = c .note-known .ensures ∙ note-known limits _ _ _ (sym (c .before .before .shaped .ensures) ∙ not-false _ (c .before .if1 .left))
+returns-2 c =
+    c .note-known .ensures ∙ note-known limits _ _ _
+    (sym (c .before .before .shaped .ensures) ∙ not-false _ (c .before .if1 .left))
 
 pub note-spec : {M : Type 1} → statement M
 note-spec =

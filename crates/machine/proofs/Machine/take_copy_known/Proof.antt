@@ -1,4 +1,4 @@
-use Rattle.machine.proofs.Copying.{good-width, copy-old, copy-below, copy-above, copy-done}
+use Rattle.machine.proofs.Copying.{copy-facts, copy-old, copy-below, copy-above, copy-done}
 use Rattle.machine.proofs.Queueing.{ready-rest}
 use Rattle.machine.proofs.InShape.{good}
 use mathlib.Core.Path.{sym, _∙_}
@@ -28,7 +28,8 @@ returns-3 c = c .not-copied3 .ensures ∙ copy-above limits _ _ _ _ (omega arith
 
 cells-of-requires : tie.Need-cells-of-requires
 cells-of-requires c κs = let r = c .before .before .before .before .before .before .before in
-    let w = good-width limits (r .args .self) (r .args .position) (r .args .cells .now) (r .args .decided) (r .pre .1) in
+    let w = copy-facts limits (r .args .self) (r .args .position) (r .args .cells .now) (r .args .decided)
+    (r .pre .1) .1 in
     omega (arith, good limits (r .args .self) (r .pre .0) .width-most)
 
 copy-requires : tie.Need-copy-requires
@@ -48,7 +49,9 @@ copy-requires c κs = let r = c .before .before .before .before .before .before 
     }
 
 returns-4 : tie.Need-returns-4
-returns-4 c = c .copy .ensures ∙ copy-done limits _ _ _ _ (omega arith) (omega arith) _ (omega arith) (c .before .before .cells-of .ensures)
+returns-4 c =
+    c .copy .ensures ∙ copy-done limits _ _ _ _ (omega arith) (omega arith) _ (omega arith)
+    (c .before .before .cells-of .ensures)
 
 pub take-copy-known-spec : {M : Type 1} → statement M
 take-copy-known-spec =

@@ -25,13 +25,16 @@ run-known-requires : tie.Need-run-known-requires
 run-known-requires c κs = search needs
 
 take-other-requires : tie.Need-take-other-requires
-take-other-requires c κs = let r = c .before .before .before .before .before .before .before .before .before .before in
+take-other-requires c κs =
+    let r = c .before .before .before .before .before .before .before .before .before .before in
     let m = r .args .self in
     let g = good limits m (r .pre .0) in
     (ready limits m g, g .position-most)
 
 returns-3 : tie.Need-returns-3
-returns-3 c = c .take-other .ensures ∙ is-other limits _ _ _ _ _ (omega arith) (omega arith) _ (c .before .if3 .taken) (c .before .before .before .run-known .ensures)
+returns-3 c =
+    c .take-other .ensures ∙ is-other limits _ _ _ _ _ (omega arith) (omega arith) _ (c .before .if3 .taken)
+    (c .before .before .before .run-known .ensures)
 
 as-issued-requires : tie.Need-as-issued-requires
 as-issued-requires c κs = search needs
@@ -40,17 +43,22 @@ not-taken-requires-3 : tie.Need-not-taken-requires-3
 not-taken-requires-3 c κs = search needs
 
 returns-4 : tie.Need-returns-4
-returns-4 c = c .not-taken3 .ensures ∙ is-not-issued limits _ _ _ _ _ (omega arith) (omega arith) (omega arith) (sym (c .before .before .as-issued .ensures) ∙ not-true _ (c .before .if4 .taken))
+returns-4 c =
+    c .not-taken3 .ensures ∙ is-not-issued limits _ _ _ _ _ (omega arith) (omega arith) (omega arith)
+    (sym (c .before .before .as-issued .ensures) ∙ not-true _ (c .before .if4 .taken))
 
 take-own-requires : tie.Need-take-own-requires
-take-own-requires c κs = let r = c .before .before .before .before .before .before .before .before .before .before .before .before in
+take-own-requires c κs =
+    let r = c .before .before .before .before .before .before .before .before .before .before .before .before in
     let m = r .args .self in
     let g = good limits m (r .pre .0) in
     let q = g .queue-is in
     let h = g .heard in
     let i = g .issued-most in
     record {
-      waits = as-issued-waits m (r .args .number) (r .args .op .now) (sym (c .before .as-issued .ensures) ∙ not-false _ (c .if4 .left));
+      waits =
+          as-issued-waits m (r .args .number) (r .args .op .now)
+          (sym (c .before .as-issued .ensures) ∙ not-false _ (c .if4 .left));
       place = g .position-most;
       decided = omega arith;
       kept = omega arith;
@@ -58,7 +66,10 @@ take-own-requires c κs = let r = c .before .before .before .before .before .bef
     }
 
 returns-5 : tie.Need-returns-5
-returns-5 c = c .take-own .ensures ∙ is-own limits _ _ _ _ _ (omega arith) (omega arith) (omega arith) _ (sym (c .before .before .as-issued .ensures) ∙ not-false _ (c .before .if4 .left)) (c .before .before .before .before .before .run-known .ensures)
+returns-5 c =
+    c .take-own .ensures ∙ is-own limits _ _ _ _ _ (omega arith) (omega arith) (omega arith) _
+    (sym (c .before .before .as-issued .ensures) ∙ not-false _ (c .before .if4 .left))
+    (c .before .before .before .before .before .run-known .ensures)
 
 pub take-record-known-spec : {M : Type 1} → statement M
 take-record-known-spec =

@@ -13,7 +13,8 @@ use Rattle.machine.proofs.done.advance.Statement.{statement}
 use Rattle.machine.proofs.done.advance.Tie as tie
 
 abbrev Inv-loop : tie.InvT-loop
-Inv-loop n queue next₀ i₀ next i = (length queue ≡ 16) × ((i ≤ 16 - n) × (next ≡ over i (drop n queue) (replicate 16 (empty limits))))
+Inv-loop n queue next₀ i₀ next i =
+    (length queue ≡ 16) × ((i ≤ 16 - n) × (next ≡ over i (drop n queue) (replicate 16 (empty limits))))
 
 abbrev μ-loop : tie.MeasureT-loop
 μ-loop n queue next₀ i₀ next i = 16 - n - i
@@ -50,8 +51,16 @@ loop-again c = let a = c .before .before .before in
     let loop = c .before .before .loop in
     let pre = a .pre in
     let queue = a .args .t1 in
-    let old = over (loop .i) (drop (a .args .n) queue) (replicate 16 (empty limits)) in
-    (loop .inv .0, (omega arith, ap (λ q. set q (loop .i) (getD queue (a .args .n + loop .i) nothing)) (loop .inv .1 .1) ∙ (ap (λ x. set old (loop .i) x) (sym (getD-drop (a .args .n) queue (loop .i) nothing)) ∙ over-more (drop (a .args .n) queue) (replicate 16 (empty limits)) nothing (loop .i) (simp length-drop (omega arith)) (omega arith))))
+    let old = over (loop .i) (drop (a .args .n) queue) (replicate 16 (empty limits)) in (
+      loop .inv .0,
+      (
+        omega arith,
+        ap (λ q. set q (loop .i) (getD queue (a .args .n + loop .i) nothing)) (loop .inv .1 .1) ∙ (ap
+            (λ x. set old (loop .i) x) (sym (getD-drop (a .args .n) queue (loop .i) nothing)) ∙ over-more
+            (drop (a .args .n) queue) (replicate 16 (empty limits)) nothing (loop .i) (simp length-drop (omega arith))
+            (omega arith)),
+      ),
+    )
 
 returns : tie.Need-returns Inv-loop μ-loop
 returns c = let a = c .before .before in

@@ -10,7 +10,9 @@ sub-replay : tie.Need-sub-replay
 sub-replay c = search needs
 
 replay-requires : tie.Need-replay-requires
-replay-requires c κs = let r = c .before .before .before .before in rw (c .before .before .advance .ensures) (r .pre .rest)
+replay-requires c κs =
+    let r = c .before .before .before .before in
+    rw (c .before .before .advance .ensures) (r .pre .rest)
 
 sub-m : tie.Need-sub-m
 sub-m c = search needs
@@ -23,7 +25,12 @@ add-m-2 c = search needs
 
 returns : tie.Need-returns
 unfolding copied
-returns c = rw (c .before .before .before .replay .ensures, c .before .before .before .before .before .before .advance .ensures)
+returns c =
+    rw (
+      c .before .before .before .replay .ensures,
+      c .before .before .before .before .before .before .advance
+          .ensures,
+    )
 
 pub copy-spec : {M : Type 1} → statement M
 copy-spec =

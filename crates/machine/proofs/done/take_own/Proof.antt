@@ -35,7 +35,13 @@ add-m-4 c = search needs
 
 returns : tie.Need-returns
 unfolding ownTaken
-returns c = rw (c .before .before .before .before .before .before .before .before .bit .ensures, c .before .bit2 .ensures, c .before .before .before .before .before .before .advance .ensures)
+returns c =
+    rw (
+      c .before .before .before .before .before .before .before .before .bit .ensures,
+      c .before .bit2 .ensures,
+      c
+          .before .before .before .before .before .before .advance .ensures,
+    )
 
 pub take-own-spec : {M : Type 1} → statement M
 take-own-spec =

@@ -10,7 +10,9 @@ array-share-prefix-bytes : tie.Need-array-share-prefix-bytes
 array-share-prefix-bytes c = search needs
 
 slice-aggregate-well-formed : tie.Need-slice-aggregate-well-formed
-slice-aggregate-well-formed c = let a = c .before in sym (length-take-le (a .args .len) (a .args .t1) (omega (arith, a .pre, a .good .0 .1 .0 .1)))
+slice-aggregate-well-formed c =
+    let a = c .before in
+    sym (length-take-le (a .args .len) (a .args .t1) (omega (arith, a .pre, a .good .0 .1 .0 .1)))
 
 well-formed-requires : tie.Need-well-formed-requires
 well-formed-requires c κs = search needs
@@ -25,7 +27,9 @@ are-zeros-requires : tie.Need-are-zeros-requires
 are-zeros-requires c κs = search needs
 
 returns-2 : tie.Need-returns-2
-returns-2 c = let e = sym (c .before .before .before .well-formed .ensures) ∙ not-false _ (c .before .before .if1 .left) in rw e (c .are-zeros .ensures)
+returns-2 c =
+    let e = sym (c .before .before .before .well-formed .ensures) ∙ not-false _ (c .before .before .if1 .left) in
+    rw e (c .are-zeros .ensures)
 
 pub full-spec : {M : Type 1} → statement M
 full-spec =

@@ -16,7 +16,9 @@ full-requires : tie.Need-full-requires
 full-requires c κs = search needs
 
 returns-2 : tie.Need-returns-2
-returns-2 c = place-full limits _ _ _ _ (omega arith) _ (omega arith) (rw (c .before .before .before .index .ensures) at (c .full .ensures))
+returns-2 c =
+    place-full limits _ _ _ _ (omega arith) _ (omega arith)
+    (rw (c .before .before .before .index .ensures) at (c .full .ensures))
 
 returns-3 : tie.Need-returns-3
 returns-3 c = place-left limits _ _ _ _ (omega arith) (omega arith)

@@ -14,13 +14,16 @@ use Rattle.machine.proofs.shape.queue.Statement.{statement}
 use Rattle.machine.proofs.shape.queue.Tie as tie
 
 abbrev Inv-loop : tie.InvT-loop
-Inv-loop waiting width queue i₀ i = (i ≤ 16) × (every i (λ j. placeGood limits width waiting j (getD queue j nothing)) ≡ true)
+Inv-loop waiting width queue i₀ i =
+    (i ≤ 16) × (every i (λ j. placeGood limits width waiting j (getD queue j nothing)) ≡ true)
 
 abbrev μ-loop : tie.MeasureT-loop
 μ-loop waiting width queue i₀ i = 16 - i
 
 loop-holds : tie.Need-loop-holds Inv-loop μ-loop
-loop-holds c = let a = c .args in (search needs, every-none (λ j. placeGood limits (a .width) (a .waiting) j (getD (a .t1) j nothing)))
+loop-holds c =
+    let a = c .args in
+    (search needs, every-none (λ j. placeGood limits (a .width) (a .waiting) j (getD (a .t1) j nothing)))
 
 mul-place : tie.Need-mul-place Inv-loop μ-loop
 mul-place c = search needs
@@ -33,7 +36,10 @@ place-requires c κs = search needs
 
 returns : tie.Need-returns Inv-loop μ-loop
 returns c = let a = c .before .before .before .before .before .args in
-    sym (every-stops (λ j. placeGood limits (a .width) (a .waiting) j (getD (a .t1) j nothing)) 16 (c .before .before .before .before .loop .i) (omega arith) (sym (c .before .place .ensures) ∙ not-true _ (c .if1 .taken)))
+    sym
+    (every-stops (λ j. placeGood limits (a .width) (a .waiting) j (getD (a .t1) j nothing)) 16
+    (c .before .before .before .before .loop .i) (omega arith)
+    (sym (c .before .place .ensures) ∙ not-true _ (c .if1 .taken)))
 
 add-i : tie.Need-add-i Inv-loop μ-loop
 add-i c = search needs
@@ -42,12 +48,17 @@ loop-less : tie.Need-loop-less Inv-loop μ-loop
 loop-less c = search needs
 
 loop-again : tie.Need-loop-again Inv-loop μ-loop
-loop-again c = let a = c .before .before .before .before .before .args in
-    (search needs, every-more (λ j. placeGood limits (a .width) (a .waiting) j (getD (a .t1) j nothing)) (c .before .before .before .before .loop .i) (c .before .before .before .before .loop .inv .1) (sym (c .before .place .ensures) ∙ not-false _ (c .if1 .left)))
+loop-again c = let a = c .before .before .before .before .before .args in (
+  search needs,
+  every-more (λ j. placeGood limits (a .width) (a .waiting) j (getD (a .t1) j nothing))
+      (c .before .before .before .before .loop .i) (c .before .before .before .before .loop .inv .1)
+      (sym (c .before .place .ensures) ∙ not-false _ (c .if1 .left)),
+)
 
 returns-2 : tie.Need-returns-2 Inv-loop μ-loop
 returns-2 c = let a = c .before .before .args in
-    every-end (λ j. placeGood limits (a .width) (a .waiting) j (getD (a .t1) j nothing)) 16 (c .before .loop .i) (omega arith) (omega arith) (c .before .loop .inv .1)
+    every-end (λ j. placeGood limits (a .width) (a .waiting) j (getD (a .t1) j nothing)) 16 (c .before .loop .i)
+    (omega arith) (omega arith) (c .before .loop .inv .1)
 
 pub queue-spec : {M : Type 1} → statement M
 queue-spec =

@@ -9,7 +9,8 @@ use Rattle.operation.proofs.keep.lay.Statement.{statement}
 use Rattle.operation.proofs.keep.lay.Tie as tie
 
 abbrev Inv-loop : tie.InvT-loop
-Inv-loop len buf₀ bytes i₀ buf i = (i ≤ len) × ((length bytes ≡ 48) × ((length buf ≡ length buf₀) × (buf ≡ over i bytes buf₀)))
+Inv-loop len buf₀ bytes i₀ buf i =
+    (i ≤ len) × ((length bytes ≡ 48) × ((length buf ≡ length buf₀) × (buf ≡ over i bytes buf₀)))
 
 abbrev μ-loop : tie.MeasureT-loop
 μ-loop len buf₀ bytes i₀ buf i = len - i
@@ -32,8 +33,17 @@ loop-less c = search needs
 loop-again : tie.Need-loop-again Inv-loop μ-loop
 loop-again c = let a = c .before .before in
     let loop = c .before .loop in
-    let pre = a .pre in
-    (search needs, (loop .inv .1 .0, (search needs, ap (λ b. set b (loop .i) (getD (a .args .t1) (loop .i) 0)) (loop .inv .1 .1 .1) ∙ over-more (a .args .t1) (a .args .buf .now) 0 (loop .i) (omega arith) (omega arith))))
+    let pre = a .pre in (
+      search needs,
+      (
+        loop .inv .1 .0,
+        (
+          search needs,
+          ap (λ b. set b (loop .i) (getD (a .args .t1) (loop .i) 0))
+              (loop .inv .1 .1 .1) ∙ over-more (a .args .t1) (a .args .buf .now) 0 (loop .i) (omega arith) (omega arith),
+        ),
+      ),
+    )
 
 same-length : tie.Need-same-length Inv-loop μ-loop
 same-length c = search needs

@@ -32,8 +32,11 @@ loop-less c = search needs
 
 loop-again : tie.Need-loop-again Inv-loop μ-loop
 loop-again c = let a = c .before .before .before in
-    let loop = c .before .before .loop in
-    (search needs, ap (λ b. set b (loop .i) (getD (a .args .op .now) (loop .i) 0)) (loop .inv .1) ∙ over-more (a .args .op .now) (replicate 48 0) 0 (loop .i) (omega arith) (omega (arith, a .pre)))
+    let loop = c .before .before .loop in (
+      search needs,
+      ap (λ b. set b (loop .i) (getD (a .args .op .now) (loop .i) 0)) (loop .inv .1) ∙ over-more
+          (a .args .op .now) (replicate 48 0) 0 (loop .i) (omega arith) (omega (arith, a .pre)),
+    )
 
 cast-t11 : tie.Need-cast-t11 Inv-loop μ-loop
 cast-t11 c = search needs

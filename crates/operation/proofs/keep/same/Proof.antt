@@ -10,7 +10,9 @@ array-share-prefix-bytes : tie.Need-array-share-prefix-bytes
 array-share-prefix-bytes c = search needs
 
 slice-aggregate-same : tie.Need-slice-aggregate-same
-slice-aggregate-same c = let a = c .before .before in sym (length-take-le (a .args .len) (a .args .t1) (omega (arith, a .pre, a .good .0 .1 .0 .1)))
+slice-aggregate-same c =
+    let a = c .before .before in
+    sym (length-take-le (a .args .len) (a .args .t1) (omega (arith, a .pre, a .good .0 .1 .0 .1)))
 
 same-requires : tie.Need-same-requires
 same-requires c κs = search needs
