@@ -3,13 +3,13 @@ use Prim.Native.Nat.{ℕ, _≤_, _<_}
 use native.Mathlib.Omega.{arith}
 use mathlib.Core.Bool.{Bool, true, false}
 use mathlib.Core.List.{List}
-use mathlib.Core.Path.{_≡_, refl}
+use mathlib.Core.Path.{_≡_}
 use lib.Dec.{ltb, leb, eqb}
 use lib.ListN.{length, getD}
 use borrow.Author.Tests.{le-ltb, leb-true, eqb-true}
 use Rattle.basics.specs.Choice.{if_then_else_}
-use Rattle.basics.specs.Counts.{countAt, counts, zeroAt, zerosFrom}
-use Rattle.basics.proofs.Every.{every-at, every-all}
+use Rattle.basics.specs.Counts.{countAt, counts}
+use Rattle.basics.proofs.Every.{every-at}
 
 module _ (xs : List ℕ) (n most : ℕ) (all : counts xs n most ≡ true) where
   -- a count is at most the limit

@@ -33,7 +33,7 @@ pub fn cells_of(first: &[u32]) -> Cells
     ensures { λ r. ⌜ r ≡ filled limits (now (first .entry)) ⌝ }
 {
     let mut cells = [0u32; CELLS];
-    let mut i: usize = 0;
+    let mut i = 0;
     while i < first.len() {
         cells[i] = first[i];
         i += 1;

@@ -2,7 +2,7 @@
 use Prim.Native.Nat.{ℕ, _+_, _≤_, _<_}
 use mathlib.Core.Bool.{true, false}
 use mathlib.Core.List.{List}
-use mathlib.Core.Path.{_≡_, refl, _∙_}
+use mathlib.Core.Path.{_≡_}
 use lib.ListN.{length}
 use borrow.Author.Tests.{lt-ltb, le-ltb, le-leb, lt-leb}
 use Rattle.basics.specs.Over.{over}
@@ -10,7 +10,6 @@ use Rattle.basics.specs.declared.Answer.the-variants.{Done, OutOfShape, NoSuchW
 use Rattle.operation.specs.Limits.{Limits}
 use Rattle.machine.specs.Shape.{shaped}
 use Rattle.machine.specs.Asking.{notAsked, waitingAt, askKnown, askOf, askedKnown, askedInto}
-use Rattle.machine.specs.declared.Asked.{Asked}
 use Rattle.machine.specs.declared.Machine.{Machine}
 
 module _ (l : Limits) (m : Machine) (j : ℕ) (buf : List ℕ) where

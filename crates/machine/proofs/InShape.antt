@@ -6,18 +6,16 @@ use mathlib.Core.Path.{_≡_, refl, sym, _∙_}
 use lib.Dec.{ltb, leb, eqb}
 use lib.ListN.{getD}
 use borrow.Author.Tests.{lt-ltb, le-ltb, le-leb, lt-leb, eq-eqb, ne-eqb, leb-true, ltb-true, eqb-true, eqb-false}
-use Rattle.basics.specs.Choice.{if_then_else_}
 use Rattle.basics.specs.Every.{every}
 use Rattle.basics.specs.Counts.{counts, zerosFrom}
 use Rattle.basics.proofs.Choice.{and-both}
-use Rattle.basics.proofs.Every.{every-at}
 use Rattle.operation.specs.Limits.{Limits}
 use Rattle.operation.specs.Packing.{unpacked, nothing}
 use Rattle.operation.specs.Reading.{wellFormed}
 use Rattle.operation.specs.declared.Packed.{Packed}
-use Rattle.effect.specs.Replaying.{mostQueued, Sound, Ready}
+use Rattle.effect.specs.Replaying.{mostQueued}
 use Rattle.machine.specs.Numbers.{mostMachines, noteCount, mostIssued, mostDecided}
-use Rattle.machine.specs.Shape.{sizesGood, salesGood, waits, blank, placeGood, shaped}
+use Rattle.machine.specs.Shape.{sizesGood, salesGood, placeGood, shaped}
 use Rattle.machine.specs.declared.Machine.{Machine}
 
 module _ (l : Limits) (machines width me : ℕ) where

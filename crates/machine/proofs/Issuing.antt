@@ -2,7 +2,7 @@
 use Prim.Native.Nat.{ℕ, _≤_, _<_}
 use mathlib.Core.Bool.{true, false}
 use mathlib.Core.List.{List}
-use mathlib.Core.Path.{_≡_, refl}
+use mathlib.Core.Path.{_≡_}
 use borrow.Author.Tests.{le-leb, lt-leb}
 use Rattle.basics.specs.declared.Answer.the-variants.{OutOfShape, Malformed, QueueFull, AllIssued, FailsOnGuess}
 use Rattle.operation.specs.Limits.{Limits}
@@ -12,7 +12,7 @@ use Rattle.effect.specs.Replaying.{mostQueued}
 use Rattle.effect.proofs.Cases.{came-some, came-none}
 use Rattle.machine.specs.Numbers.{mostIssued}
 use Rattle.machine.specs.Shape.{shaped}
-use Rattle.machine.specs.Issuing.{notIssued, sold, soldOn, issueKnown, issueOf}
+use Rattle.machine.specs.Issuing.{notIssued, sold, issueKnown, issueOf}
 use Rattle.machine.specs.declared.Machine.{Machine}
 
 module _ (l : Limits) (m : Machine) (op : List ℕ) where

@@ -4,7 +4,7 @@ use native.Mathlib.Omega.{arith}
 use mathlib.Core.Bool.{Bool, true, false, not, _&&_}
 use mathlib.Core.List.{List, _++_}
 use mathlib.Core.Option.{Option, some, none}
-use mathlib.Core.Path.{_≡_, refl, sym, ap, _∙_}
+use mathlib.Core.Path.{_≡_, refl, sym, _∙_}
 use lib.Dec.{ltb, leb, eqb}
 use lib.ListN.{
   length,
@@ -14,8 +14,6 @@ use lib.ListN.{
   replicate,
   length-set,
   length-drop,
-  length-append,
-  length-replicate,
   getD-replicate,
   List·getD-eq-default,
   List·getD-append,
@@ -28,7 +26,6 @@ use borrow.Author.Tests.{
   eq-eqb,
   ltb-true,
   ltb-false,
-  leb-true,
   leb-false,
   eqb-true,
   eqb-false,
@@ -42,7 +39,7 @@ use Rattle.basics.proofs.Choice.{by-cases, and-both}
 use Rattle.basics.proofs.Every.{every-at, every-all}
 use Rattle.basics.proofs.Counts.{count-most, count-zero}
 use Rattle.operation.specs.Limits.{Limits}
-use Rattle.operation.specs.Packing.{unpacked, packed, empty, nothing}
+use Rattle.operation.specs.Packing.{packed, empty, nothing}
 use Rattle.operation.specs.Reading.{wellFormed}
 use Rattle.operation.specs.declared.Packed.{Packed}
 use Rattle.operation.proofs.Packing.{len-packed, unpacked-packed, packed-zeros, all-zero, zeros-are}
@@ -242,7 +239,8 @@ module _ (l : Limits) (m : Machine) (g : Good l m) (sized : length (m .queue) �
 
       go :
           (i : ℕ) → i < mostQueued → (t : Bool) → ltb (n + i) mostQueued ≡ t →
-          placeGood l (m .width) (m .waiting - n) i (getD (drop n (m .queue) ++ replicate n (empty l)) i nothing) ≡ true
+          placeGood l (m .width) (m .waiting - n) i
+          (getD (drop n (m .queue) ++ replicate n (empty l)) i nothing) ≡ true
       go i lt true e =
           let f = ltb-true (n + i) mostQueued e in
           rw (
@@ -272,7 +270,8 @@ module _ (l : Limits) (m : Machine) (g : Good l m) (sized : length (m .queue) �
 
       go :
           (i : ℕ) → i < mostQueued → (t : Bool) → eqb i (m .waiting) ≡ t →
-          placeGood l (m .width) (m .waiting + 1) i (getD (set (m .queue) (m .waiting) (packed l op)) i nothing) ≡ true
+          placeGood l (m .width) (m .waiting + 1) i
+          (getD (set (m .queue) (m .waiting) (packed l op)) i nothing) ≡ true
       go i lt true e =
           let f = eqb-true i (m .waiting) e in
           rw (f, getD-set-same (m .queue) (m .waiting) (packed l op) nothing (omega arith)) joined

@@ -8,3 +8,4 @@ pub mod Asking
 pub mod Recording
 pub mod Copying
 pub mod Keeping
+pub mod Guesstimate

@@ -1,7 +1,7 @@
 -- Laws of noting, by each way out. Assumes nothing.
 use Prim.Native.Nat.{ℕ, _≤_, _<_}
 use mathlib.Core.Bool.{true, false}
-use mathlib.Core.Path.{_≡_, refl}
+use mathlib.Core.Path.{_≡_}
 use borrow.Author.Tests.{lt-ltb, le-ltb}
 use Rattle.basics.specs.declared.Answer.the-variants.{OutOfShape, NoSuchNote}
 use Rattle.operation.specs.Limits.{Limits}

@@ -2,7 +2,7 @@
 use Prim.Native.Nat.{ℕ}
 use mathlib.Core.Bool.{true, false}
 use mathlib.Core.List.{List}
-use mathlib.Core.Path.{_≡_, refl}
+use mathlib.Core.Path.{_≡_}
 use lib.ListN.{length}
 use Rattle.basics.specs.Counts.{counts}
 use Rattle.basics.specs.declared.Answer.the-variants.{Done}
@@ -11,7 +11,6 @@ use Rattle.effect.specs.Running.{filled}
 use Rattle.machine.specs.Shape.{sizesGood}
 use Rattle.machine.specs.Starting.{started, badStart, freshOf}
 use Rattle.machine.specs.declared.Machine.{Machine}
-use Rattle.machine.specs.declared.Made.{Made}
 
 module _ (l : Limits) (machines me : ℕ) (first : List ℕ) where
   pub bad-sizes : sizesGood l machines (length first) me ≡ false → badStart l ≡ freshOf l machines me first

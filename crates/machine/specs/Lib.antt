@@ -8,3 +8,5 @@ pub mod Noting
 pub mod Asking
 pub mod Recording
 pub mod Copying
+pub mod Guesstimate
+pub mod Viewing

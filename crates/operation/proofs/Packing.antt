@@ -1,11 +1,11 @@
 -- Laws of an operation that is kept. Assumes nothing.
 use Prim.Native.Nat.{ℕ, zero, suc, _≤_, _+_, _-_, zero-le}
 use native.Mathlib.Omega.{arith}
-use mathlib.Core.Bool.{Bool, true, false, _&&_, true≢false, false≢true}
-use mathlib.Core.List.{List, [], _∷_, _++_}
-use mathlib.Core.Path.{_≡_, refl, sym, ap, _∙_}
+use mathlib.Core.Bool.{Bool, true, false, false≢true}
+use mathlib.Core.List.{List, [], _∷_}
+use mathlib.Core.Path.{_≡_, refl, sym, _∙_}
 use lib.Dec.{ltb, eqb}
-use lib.ListN.{length, getD, take, drop, replicate, length-replicate, getD-replicate, List·getD-eq-default}
+use lib.ListN.{length, getD, drop, replicate}
 use lib.Seq.{take-length, take-append-seam, getD-append-add, getD-drop}
 use borrow.Author.Tests.{le-ltb, eq-eqb, eqb-true, ltb-false}
 use Rattle.basics.specs.Over.{over}

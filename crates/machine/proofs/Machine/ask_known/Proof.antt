@@ -1,7 +1,7 @@
 use Rattle.machine.proofs.Asking.{no-waiting, too-short, is-asked}
 use Rattle.machine.proofs.Queueing.{sound-at}
 use Rattle.machine.proofs.InShape.{good}
-use mathlib.Core.Path.{sym, _∙_}
+use mathlib.Core.Path.{_∙_}
 use Rattle.operation.specs.Limits.{limits}
 use native.Mathlib.Omega.{arith}
 use borrow.Author.Needs.{needs}

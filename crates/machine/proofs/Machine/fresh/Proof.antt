@@ -3,7 +3,6 @@ use Rattle.machine.proofs.Starting.{bad-sizes, bad-counts, good-start}
 use borrow.Author.Tests.{not-true, not-false}
 use mathlib.Core.Path.{sym, _∙_}
 use Rattle.operation.specs.Limits.{limits}
-use native.Mathlib.Omega.{arith}
 use borrow.Author.Needs.{needs}
 use Rattle.machine.proofs.Machine.fresh.Statement.{statement}
 use Rattle.machine.proofs.Machine.fresh.Tie as tie

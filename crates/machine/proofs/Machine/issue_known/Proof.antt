@@ -1,7 +1,7 @@
 use Rattle.machine.proofs.Issuing.{known-full, known-all, known-fails, known-sold}
 use Rattle.operation.proofs.WellFormed.{formed, op-of}
 use borrow.Author.Tests.{not-true, not-false}
-use mathlib.Core.Path.{sym, _∙_}
+use mathlib.Core.Path.{_∙_}
 use Rattle.operation.specs.Limits.{limits}
 use native.Mathlib.Omega.{arith}
 use borrow.Author.Needs.{needs}

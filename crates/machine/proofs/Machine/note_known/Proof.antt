@@ -1,6 +1,6 @@
 use Rattle.machine.proofs.Noting.{no-note, no-cell, is-written}
 use Rattle.machine.proofs.InShape.{good}
-use mathlib.Core.Path.{sym, _∙_}
+use mathlib.Core.Path.{_∙_}
 use Rattle.operation.specs.Limits.{limits}
 use native.Mathlib.Omega.{arith}
 use borrow.Author.Needs.{needs}

@@ -61,7 +61,8 @@ returns-5 c =
     simp (
       sym
           (c .before .before .before .before .before .before .before .before .before .before .before .sizes .ensures) ∙
-          not-false _ (c .before .before .before .before .before .before .before .before .before .before .if1 .left),
+          not-false _
+          (c .before .before .before .before .before .before .before .before .before .before .if1 .left),
       sym
           (c .before .before .before .before .before .before .before .before .before .sales .ensures) ∙ not-false _
           (c .before .before .before .before .before .before .before .before .if2 .left),
@@ -89,7 +90,8 @@ returns-6 c =
       le-leb _ _ (c .before .before
           .before .before .before .before .before .before .before .if3 .left),
       sym (c .before .before .before .before
-          .before .before .before .cells .ensures) ∙ not-false _ (c .before .before .before .before .before .before .if4
+          .before .before .before .cells .ensures) ∙ not-false _
+          (c .before .before .before .before .before .before .if4
           .left),
       sym (c .before .before .before .before .cells2 .ensures) ∙ not-false _ (c .before .before .before .if5
           .left),

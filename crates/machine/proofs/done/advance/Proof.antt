@@ -57,7 +57,8 @@ loop-again c = let a = c .before .before .before in
         omega arith,
         ap (λ q. set q (loop .i) (getD queue (a .args .n + loop .i) nothing)) (loop .inv .1 .1) ∙ (ap
             (λ x. set old (loop .i) x) (sym (getD-drop (a .args .n) queue (loop .i) nothing)) ∙ over-more
-            (drop (a .args .n) queue) (replicate 16 (empty limits)) nothing (loop .i) (simp length-drop (omega arith))
+            (drop (a .args .n) queue) (replicate 16 (empty limits)) nothing (loop .i)
+            (simp length-drop (omega arith))
             (omega arith)),
       ),
     )

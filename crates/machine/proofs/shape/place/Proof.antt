@@ -1,4 +1,3 @@
-use mathlib.Core.Path.{_∙_, ap}
 use Rattle.machine.proofs.InShape.{place-long, place-full, place-left, place-blank}
 use Rattle.operation.specs.Limits.{limits}
 use native.Mathlib.Omega.{arith}

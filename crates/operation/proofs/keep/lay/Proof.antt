@@ -1,6 +1,6 @@
-use Rattle.basics.proofs.Over.{over-more, over-length}
+use Rattle.basics.proofs.Over.{over-more}
 use Rattle.basics.specs.Over.{over}
-use lib.ListN.{length, getD, set, replicate}
+use lib.ListN.{length, getD, set}
 use mathlib.Core.Path.{_≡_, refl, ap, _∙_}
 use native.Mathlib.Omega.{arith}
 use Prim.Native.Nat.{_-_, _≤_}
@@ -40,7 +40,8 @@ loop-again c = let a = c .before .before in
         (
           search needs,
           ap (λ b. set b (loop .i) (getD (a .args .t1) (loop .i) 0))
-              (loop .inv .1 .1 .1) ∙ over-more (a .args .t1) (a .args .buf .now) 0 (loop .i) (omega arith) (omega arith),
+              (loop .inv .1 .1 .1) ∙ over-more (a .args .t1) (a .args .buf .now) 0 (loop .i) (omega arith)
+              (omega arith),
         ),
       ),
     )

@@ -1,5 +1,5 @@
 use Rattle.operation.specs.Packing.{packed}
-use Rattle.basics.proofs.Over.{over-more, over-length}
+use Rattle.basics.proofs.Over.{over-more}
 use Rattle.basics.specs.Over.{over}
 use lib.ListN.{length, getD, set, replicate}
 use mathlib.Core.Path.{_≡_, refl, ap, _∙_}
