@@ -1,13 +1,14 @@
 -- Laws of running bytes: from the walk to the outcome, and from the outcome to what is told. Assumes nothing.
 use Prim.Native.Nat.{ℕ, _≤_}
-use mathlib.Core.Bool.{true, false, true≢false, false≢true}
+use mathlib.Core.Bool.{true, false, true≢false}
 use mathlib.Core.List.{List}
 use mathlib.Core.Option.{Option, some, none, bind}
-use mathlib.Core.Path.{_≡_, refl, sym, ap, _∙_}
+use mathlib.Core.Path.{_≡_, refl}
 use Rattle.operation.specs.Limits.{Limits}
 use Rattle.operation.specs.Tree.{Op}
 use Rattle.operation.specs.Reading.{readOp, operationOf, isSome, wellFormed}
 use Rattle.operation.proofs.WellFormed.{formed, op-of}
+use Rattle.effect.proofs.Cases.{came-some, came-none}
 use Rattle.effect.specs.Running.{run, outcome, Came, came}
 use Rattle.effect.specs.Telling.{told, tells, tellsOp, tellsBytes}
 use Rattle.effect.specs.Walking.{RunsOp}
@@ -34,19 +35,11 @@ module _ (l : Limits) (width : ℕ) (s c : List ℕ) where
 
     pub told-yes :
         (r : Came) → r ≡ came c (outcome l width s c) → r .ok ≡ true → told Succeeds (r .cells) ≡ tells l width s c
-    told-yes r e h = rw tells-op (go (outcome l width s c) e)
-      where
-        go : (o : Option (List ℕ)) → r ≡ came c o → told Succeeds (r .cells) ≡ tellsOp c o
-        go (some d) e = rw e
-        go none e = absurd (true≢false (sym h ∙ ap (λ (x : Came). x .ok) e))
+    told-yes r e h = rw (tells-op, came-some c r (outcome l width s c) e h)
 
     pub told-no :
         (r : Came) → r ≡ came c (outcome l width s c) → r .ok ≡ false → told Fails (r .cells) ≡ tells l width s c
-    told-no r e h = rw tells-op (go (outcome l width s c) e)
-      where
-        go : (o : Option (List ℕ)) → r ≡ came c o → told Fails (r .cells) ≡ tellsOp c o
-        go (some d) e = absurd (false≢true (sym h ∙ ap (λ (x : Came). x .ok) e))
-        go none e = rw e
+    told-no r e h = let (fails, cells) = came-none c r (outcome l width s c) e h in rw (tells-op, fails, cells)
 
   pub told-malformed : wellFormed l width s ≡ false → told Malformed c ≡ tells l width s c
   unfolding wellFormed tells

@@ -85,7 +85,8 @@ module _ (l : Limits) (C : List (Shared Cells Local)) (m : Machine) where
   issue-is-R2 op guess h e = (rw e, go (outcome l (m .width) op (m .guess)) e)
     where
       pending :
-          map (sale l (m .width)) (queued (m .waiting + 1) (set (m .queue) (m .waiting) (packed l op))) ≡ map (sale l (m .width)) (queued (m .waiting) (m .queue)) ++ (sale l (m .width) op ∷ [])
+          map (sale l (m .width)) (queued (m .waiting + 1) (set (m .queue) (m .waiting) (packed l op))) ≡ map
+          (sale l (m .width)) (queued (m .waiting) (m .queue)) ++ (sale l (m .width) op ∷ [])
       pending =
           ap (map (sale l (m .width))) (queued-joined l (m .waiting) (m .queue) op h) ∙ map-append
           (sale l (m .width)) (queued (m .waiting) (m .queue)) (op ∷ [])

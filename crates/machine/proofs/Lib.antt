@@ -7,5 +7,7 @@ pub mod Noting
 pub mod Asking
 pub mod Recording
 pub mod Copying
+pub mod KeptCounts
+pub mod KeptPlaces
 pub mod Keeping
 pub mod Guesstimate

@@ -9,6 +9,8 @@ ghost use mathlib.Core.Bool.{true};
 ghost use lib.ListN.{length};
 ghost use Rattle.operation.specs.Limits.{limits};
 ghost use Rattle.operation.specs.Reading.{wellFormed};
+ghost use Prim.Native.Nat.{_<_};
+ghost use Rattle.machine.specs.Numbers.{mostDecided};
 ghost use Rattle.machine.specs.Shape.{shaped};
 ghost use Rattle.machine.specs.Starting.{freshOf};
 ghost use Rattle.machine.specs.Issuing.{issueOf, issueKnown};
@@ -228,7 +230,7 @@ impl Machine {
     }
 
     pub fn take_record_known(self, n: u64, who: usize, number: u64, op: &[u8]) -> Taken
-        requires { ⌜ (shaped limits self ≡ true) × (wellFormed limits (self .width) (now op) ≡ true) ⌝ }
+        requires { ⌜ (shaped limits self ≡ true) × (wellFormed limits (self .width) (now op) ≡ true) × (n < mostDecided) ⌝ }
         ensures { λ r. ⌜ r ≡ recordKnown limits self n who number (now (op .entry)) ⌝ }
     {
         if n < self.position {

@@ -1,18 +1,18 @@
 -- Laws of an operation that is kept. Assumes nothing.
-use Prim.Native.Nat.{ℕ, zero, suc, _≤_, _+_, _-_, zero-le}
-use native.Mathlib.Omega.{arith}
+use Prim.Native.Nat.{ℕ, zero-le}
 use mathlib.Core.Bool.{Bool, true, false, false≢true}
 use mathlib.Core.List.{List, [], _∷_}
-use mathlib.Core.Path.{_≡_, refl, sym, _∙_}
+use mathlib.Core.Path.{_≡_, refl, sym}
 use lib.Dec.{ltb, eqb}
 use lib.ListN.{length, getD, drop, replicate}
-use lib.Seq.{take-length, take-append-seam, getD-append-add, getD-drop}
+use lib.Seq.{take-length, take-append-seam}
 use borrow.Author.Tests.{le-ltb, eq-eqb, eqb-true, ltb-false}
 use Rattle.basics.specs.Over.{over}
 use Rattle.basics.specs.Counts.{zeroAt, zerosFrom}
 use Rattle.basics.specs.Choice.{if_then_else_}
 use Rattle.basics.proofs.Choice.{and-both}
 use Rattle.basics.proofs.Every.{every-all}
+use Rattle.basics.proofs.Over.{all-zero, over-past}
 use Rattle.operation.specs.Limits.{Limits}
 use Rattle.operation.specs.Packing.{unpacked, packed, sameBytes}
 
@@ -48,12 +48,7 @@ pub unpacked-packed : (l : Limits) (s : List ℕ) → unpacked (packed l s) ≡ 
 unfolding packed
 unpacked-packed l s = rw take-length (take-append-seam s (drop (length s) (replicate (l .bytes) 0)))
 
--- zeros are 0 everywhere
-pub all-zero : (n i : ℕ) → _≡_ {A = ℕ} (getD (replicate n 0) i 0) 0
-all-zero zero i = refl
-all-zero (suc n) zero = refl
-all-zero (suc n) (suc i) = all-zero n i
-
+-- zeros are zeros from the start
 pub zeros-are : (n : ℕ) → zerosFrom (replicate n 0) 0 ≡ true
 unfolding zerosFrom
 zeros-are n =
@@ -67,14 +62,6 @@ packed-zeros l s = every-all (zeroAt bytes (length s)) (length bytes) (λ i h. g
     bytes : List ℕ
     bytes = over (length s) s (replicate (l .bytes) 0)
 
-    zero-at : (i : ℕ) → length s ≤ i → getD bytes i 0 ≡ 0
-    zero-at i h =
-        let k : length s + (i - length s) ≡ i = omega arith in
-        let e = getD-append-add s (drop (length s) (replicate (l .bytes) 0)) (i - length s) 0 in
-        rw take-length (rw k at e) ∙
-        (getD-drop (length s) (replicate (l .bytes) 0) (i - length s) 0 ∙ all-zero (l .bytes)
-        (length s + (i - length s)))
-
     go : (i : ℕ) (t : Bool) → ltb i (length s) ≡ t → (if t then true else eqb (getD bytes i 0) 0) ≡ true
     go i true e = refl
-    go i false e = eq-eqb (getD bytes i 0) 0 (zero-at i (ltb-false i (length s) e))
+    go i false e = eq-eqb (getD bytes i 0) 0 (over-past s (l .bytes) i (ltb-false i (length s) e))

@@ -74,6 +74,7 @@ take-record-known-requires c κs = (
       (c .before .before .before .before .before .before .if1 .left),
   sym (c .before .well-formed .ensures) ∙
       not-false _ (c .if5 .left),
+  omega arith,
 )
 
 returns-6 : tie.Need-returns-6
