@@ -4,6 +4,7 @@ ghost use lib.ListN.{drop};
 ghost use lib.Dec.{ltb, leb, eqb};
 ghost use mathlib.Core.Bool.{true};
 ghost use Rattle.basics.specs.Choice.{if_then_else_};
+ghost use Rattle.basics.specs.Answers.{numberOf};
 ghost use Rattle.basics.specs.Counts.{counts, zerosFrom};
 
 // What a call answers: done, or why it refuses. `numberOf` in specs/Answers.antt has the paper's number of each.
@@ -26,6 +27,34 @@ pub enum Answer {
     NotKept,
     BadText,
     BadStart,
+}
+
+impl Answer {
+    // The paper's number.
+    pub fn number(self) -> u8
+        ensures { λ r. ⌜ r ≡ numberOf self ⌝ }
+    {
+        match self {
+            Answer::Done => 0,
+            Answer::OutOfShape => 1,
+            Answer::Malformed => 2,
+            Answer::QueueFull => 3,
+            Answer::AllIssued => 4,
+            Answer::FailsOnGuess => 5,
+            Answer::NoSuchNote => 6,
+            Answer::NoSuchWaiting => 7,
+            Answer::BufferTooShort => 8,
+            Answer::OutOfRange => 9,
+            Answer::Old => 10,
+            Answer::Early => 11,
+            Answer::NotAsIssued => 12,
+            Answer::BadCopy => 13,
+            Answer::NotDecided => 14,
+            Answer::NotKept => 15,
+            Answer::BadText => 16,
+            Answer::BadStart => 17,
+        }
+    }
 }
 
 // What is left of `s` after its first `n` bytes: nothing where it has no more.

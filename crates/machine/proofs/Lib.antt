@@ -9,5 +9,6 @@ pub mod Recording
 pub mod Copying
 pub mod KeptCounts
 pub mod KeptPlaces
+pub mod KeptStates
 pub mod Keeping
 pub mod Guesstimate

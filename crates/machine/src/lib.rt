@@ -1,6 +1,7 @@
 // The selling machine: its state and its five calls. Each call tests the state's shape and its arguments, in the paper's
 // order of refusals; its `_known` form is for a state that is known to be in shape.
 mod answers;
+mod arrivals;
 mod done;
 mod shape;
 
@@ -16,7 +17,7 @@ ghost use Rattle.machine.specs.Starting.{freshOf};
 ghost use Rattle.machine.specs.Issuing.{issueOf, issueKnown};
 ghost use Rattle.machine.specs.Noting.{noteOf, noteKnown};
 ghost use Rattle.machine.specs.Asking.{askOf, askKnown, askedInto, askedKnown};
-ghost use Rattle.machine.specs.Recording.{recordOf, recordKnown, asIssued};
+ghost use Rattle.machine.specs.Recording.{recordOf, recordKnown};
 ghost use Rattle.machine.specs.Copying.{copyOf, copyKnown, copyGood};
 use answers::not_asked;
 use answers::not_copied;
@@ -32,7 +33,6 @@ use effect::cells_of;
 use operation::BYTES;
 use operation::HELD;
 use operation::keep::lay;
-use operation::keep::same;
 
 // What a machine holds: how many machines and cells there are and its own number; the agreed counts and how many records
 // it has taken in; its guess, and the sales that wait, the oldest first; how many it has issued and had decided, and how
@@ -137,6 +137,7 @@ impl Machine {
     pub fn issue_known(self, op: &[u8]) -> Issued
         requires { ⌜ (shaped limits self ≡ true) × (wellFormed limits (self .width) (now op) ≡ true) ⌝ }
         ensures { λ r. ⌜ r ≡ issueKnown limits self (now (op .entry)) ⌝ }
+        ensures { λ r. ⌜ shaped limits (r .machine) ≡ true ⌝ }
     {
         if Machine::QUEUE <= self.waiting {
             return not_issued(Answer::QueueFull, self);
@@ -164,6 +165,7 @@ impl Machine {
     pub fn note_known(self, k: usize, cell: usize) -> Noted
         requires { ⌜ shaped limits self ≡ true ⌝ }
         ensures { λ r. ⌜ r ≡ noteKnown self k cell ⌝ }
+        ensures { λ r. ⌜ shaped limits (r .machine) ≡ true ⌝ }
     {
         if Machine::NOTES <= k {
             return not_noted(Answer::NoSuchNote, self);
@@ -232,6 +234,7 @@ impl Machine {
     pub fn take_record_known(self, n: u64, who: usize, number: u64, op: &[u8]) -> Taken
         requires { ⌜ (shaped limits self ≡ true) × (wellFormed limits (self .width) (now op) ≡ true) × (n < mostDecided) ⌝ }
         ensures { λ r. ⌜ r ≡ recordKnown limits self n who number (now (op .entry)) ⌝ }
+        ensures { λ r. ⌜ shaped limits (r .machine) ≡ true ⌝ }
     {
         if n < self.position {
             return not_taken(Answer::Old, self);
@@ -244,26 +247,10 @@ impl Machine {
         if who != self.me {
             return done::take_other(self, agreed);
         }
-        if !self.as_issued(number, op) {
+        if !arrivals::as_issued(self, number, op) {
             return not_taken(Answer::NotAsIssued, self);
         }
         done::take_own(self, agreed, ran.ok)
-    }
-
-    // Whether `op` is the front of the queue, under its number.
-    fn as_issued(self, number: u64, op: &[u8]) -> bool
-        requires { ⌜ shaped limits self ≡ true ⌝ }
-        ensures { λ r. ⌜ r ≡ asIssued self number (now (op .entry)) ⌝ }
-    {
-        if self.waiting < 1 {
-            return false;
-        }
-        if number != self.done {
-            return false;
-        }
-        let o = self.queue[0];
-        let bytes = o.bytes;
-        same(bytes, index(o.len), op)
     }
 
     // Take a fresh copy: the hub's position and cells, and how many operations of this machine it has decided.
@@ -273,7 +260,7 @@ impl Machine {
         if !self.shaped() {
             return not_copied(Answer::OutOfShape, self);
         }
-        if !self.fits(position, cells, decided) {
+        if !arrivals::fits(self, position, cells, decided) {
             return not_copied(Answer::BadCopy, self);
         }
         self.take_copy_known(position, cells, decided)
@@ -282,6 +269,7 @@ impl Machine {
     pub fn take_copy_known(self, position: u64, cells: &[u32], decided: u64) -> Copied
         requires { ⌜ (shaped limits self ≡ true) × (copyGood limits self position (now cells) decided ≡ true) ⌝ }
         ensures { λ r. ⌜ r ≡ copyKnown limits self position (now (cells .entry)) decided ⌝ }
+        ensures { λ r. ⌜ shaped limits (r .machine) ≡ true ⌝ }
     {
         if position <= self.position {
             return not_copied(Answer::Old, self);
@@ -298,22 +286,6 @@ impl Machine {
             cells_of(cells),
             (decided - self.done) as usize,
         )
-    }
-
-    // Whether a copy can be one.
-    fn fits(self, position: u64, cells: &[u32], decided: u64) -> bool
-        ensures { λ r. ⌜ r ≡ copyGood limits self position (now (cells .entry)) decided ⌝ }
-    {
-        if Machine::DECIDED < position {
-            return false;
-        }
-        if cells.len() != self.width {
-            return false;
-        }
-        if !are_counts(cells, cells.len(), HELD) {
-            return false;
-        }
-        decided <= Machine::ISSUED
     }
 
     // Whether the state is in good shape.

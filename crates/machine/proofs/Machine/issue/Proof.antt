@@ -38,7 +38,7 @@ issue-known-requires c κs = (
 
 returns-3 : tie.Need-returns-3
 returns-3 c =
-    c .issue-known .ensures ∙ issue-known limits _ _
+    c .issue-known .ensures .0 ∙ issue-known limits _ _
     (sym (c .before .before .before .before .shaped .ensures) ∙ not-false _ (c .before .before .before .if1 .left))
     (sym (c .before .before .well-formed .ensures) ∙ not-false _ (c .before .if2 .left))
 

@@ -22,7 +22,7 @@ note-known-requires c κs = sym (c .before .shaped .ensures) ∙ not-false _ (c 
 
 returns-2 : tie.Need-returns-2
 returns-2 c =
-    c .note-known .ensures ∙ note-known limits _ _ _
+    c .note-known .ensures .0 ∙ note-known limits _ _ _
     (sym (c .before .before .shaped .ensures) ∙ not-false _ (c .before .if1 .left))
 
 pub note-spec : {M : Type 1} → statement M

@@ -38,7 +38,7 @@ take-copy-known-requires c κs = (
 
 returns-3 : tie.Need-returns-3
 returns-3 c =
-    c .take-copy-known .ensures ∙ copy-known limits _ _ _ _
+    c .take-copy-known .ensures .0 ∙ copy-known limits _ _ _ _
     (sym (c .before .before .before .before .shaped .ensures) ∙ not-false _ (c .before .before .before .if1 .left))
     (sym (c .before .before .fits2 .ensures) ∙ not-false _ (c .before .if2 .left))
 

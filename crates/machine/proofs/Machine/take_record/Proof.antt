@@ -79,7 +79,7 @@ take-record-known-requires c κs = (
 
 returns-6 : tie.Need-returns-6
 returns-6 c =
-    c .take-record-known .ensures ∙ record-known limits _ _ _ _ _
+    c .take-record-known .ensures .0 ∙ record-known limits _ _ _ _ _
     (sym (c .before .before .before .before .before .before .before .before .shaped .ensures) ∙ not-false _
     (c .before .before .before .before .before .before .before .if1 .left))
     (omega arith) (omega arith) (omega arith)

@@ -4,8 +4,8 @@ use mathlib.Core.Path.{sym, _∙_}
 use Rattle.operation.specs.Limits.{limits}
 use native.Mathlib.Omega.{arith}
 use borrow.Author.Needs.{needs}
-use Rattle.machine.proofs.Machine.fits.Statement.{statement}
-use Rattle.machine.proofs.Machine.fits.Tie as tie
+use Rattle.machine.proofs.arrivals.fits.Statement.{statement}
+use Rattle.machine.proofs.arrivals.fits.Tie as tie
 
 returns : tie.Need-returns
 returns c = far-position limits _ _ _ _ (omega arith)

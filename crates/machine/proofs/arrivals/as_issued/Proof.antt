@@ -4,8 +4,8 @@ use Rattle.machine.proofs.InShape.{good}
 use Rattle.operation.specs.Limits.{limits}
 use native.Mathlib.Omega.{arith}
 use borrow.Author.Needs.{needs}
-use Rattle.machine.proofs.Machine.as_issued.Statement.{statement}
-use Rattle.machine.proofs.Machine.as_issued.Tie as tie
+use Rattle.machine.proofs.arrivals.as_issued.Statement.{statement}
+use Rattle.machine.proofs.arrivals.as_issued.Tie as tie
 
 returns : tie.Need-returns
 returns c = none-waits _ _ _ (omega arith)
