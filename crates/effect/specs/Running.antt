@@ -57,3 +57,8 @@ did ok c = record { ok = ok; cells = c }
 abbrev pub came : List ℕ → Option (List ℕ) → Came
 came c (some d) = did true d
 came c none = did false c
+
+-- an outcome as a number: 1 where it succeeded, 0 where it failed
+abbrev pub bit : Bool → ℕ
+bit true = 1
+bit false = 0

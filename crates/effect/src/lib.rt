@@ -8,7 +8,7 @@ ghost use Prim.Native.Nat.{_≤_};
 ghost use lib.ListN.{length, take};
 ghost use Rattle.operation.specs.Limits.{limits};
 ghost use Rattle.operation.specs.Reading.{wellFormed};
-ghost use Rattle.effect.specs.Running.{filled, did, came, outcome};
+ghost use Rattle.effect.specs.Running.{filled, did, came, outcome, bit as outcomeBit};
 ghost use Rattle.effect.specs.Telling.{told, tells};
 ghost use Rattle.operation.specs.Packing.{unpacked};
 ghost use Rattle.effect.specs.Replaying.{queued, replay as replayed, Ready, Sound};
@@ -44,6 +44,13 @@ pub fn cells_of(first: &[u32]) -> Cells
 // What running tells.
 pub struct Ran {
     pub ok: bool,
+}
+
+// An outcome as a number: 1 where it succeeded, 0 where it failed.
+pub fn bit(ok: bool) -> u8
+    ensures { λ r. ⌜ r ≡ outcomeBit ok ⌝ }
+{
+    if ok { 1 } else { 0 }
 }
 
 // What becomes of bytes that are to be run.

@@ -11,7 +11,7 @@ use Rattle.basics.specs.declared.Answer.the-variants.{OutOfShape, BadCopy, Old,
 use Rattle.basics.proofs.Choice.{and-both}
 use Rattle.operation.specs.Limits.{Limits}
 use Rattle.effect.specs.Running.{filled}
-use Rattle.machine.specs.Numbers.{mostIssued, mostDecided}
+use Rattle.state.specs.Numbers.{mostIssued, mostDecided}
 use Rattle.machine.specs.Shape.{shaped}
 use Rattle.machine.specs.Copying.{notCopied, copied, copyGood, copyKnown, copyOf}
 use Rattle.machine.specs.declared.Machine.{Machine}

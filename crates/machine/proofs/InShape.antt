@@ -1,56 +1,24 @@
 -- Laws of good shape: which tests decide each part, and what a machine in shape is known to hold. Assumes nothing.
 use Prim.Native.Nat.{ℕ, _+_, _-_, _≤_, _<_}
 use native.Mathlib.Omega.{arith}
-use mathlib.Core.Bool.{Bool, true, false, _&&_}
-use mathlib.Core.Path.{_≡_, refl, sym, _∙_}
-use lib.Dec.{ltb, leb, eqb}
+use mathlib.Core.Bool.{Bool, true, false}
+use mathlib.Core.Path.{_≡_, refl, sym}
+use lib.Dec.{eqb}
 use lib.ListN.{getD}
 use borrow.Author.Tests.{lt-ltb, le-ltb, le-leb, lt-leb, eq-eqb, ne-eqb, leb-true, ltb-true, eqb-true, eqb-false}
 use Rattle.basics.specs.Every.{every}
-use Rattle.basics.specs.Counts.{counts, zerosFrom}
+use Rattle.basics.specs.Counts.{counts}
 use Rattle.basics.proofs.Choice.{and-both}
 use Rattle.operation.specs.Limits.{Limits}
-use Rattle.operation.specs.Packing.{unpacked, nothing}
-use Rattle.operation.specs.Reading.{wellFormed}
+use Rattle.operation.specs.Packing.{nothing}
 use Rattle.operation.specs.declared.Packed.{Packed}
 use Rattle.effect.specs.Replaying.{mostQueued}
-use Rattle.machine.specs.Numbers.{mostMachines, noteCount, mostIssued, mostDecided}
-use Rattle.machine.specs.Shape.{sizesGood, salesGood, placeGood, shaped}
+use Rattle.state.specs.Holding.{holds, blank}
+use Rattle.state.proofs.InSize.{Sizes, sizes as in-size, are-sizes}
+use Rattle.state.specs.Numbers.{mostIssued, mostDecided}
+use Rattle.machine.specs.Numbers.{noteCount}
+use Rattle.machine.specs.Shape.{salesGood, placeGood, shaped}
 use Rattle.machine.specs.declared.Machine.{Machine}
-
-module _ (l : Limits) (machines width me : ℕ) where
-  pub no-machines : machines < 1 → false ≡ sizesGood l machines width me
-  unfolding sizesGood
-  no-machines h = simp (lt-leb 1 machines h)
-
-  module _ (a : 1 ≤ machines) where
-    pub many-machines : mostMachines < machines → false ≡ sizesGood l machines width me
-    unfolding sizesGood
-    many-machines h = simp (le-leb 1 machines a, lt-leb machines mostMachines h)
-
-    module _ (b : machines ≤ mostMachines) where
-      pub no-cells : width < 1 → false ≡ sizesGood l machines width me
-      unfolding sizesGood
-      no-cells h = simp (le-leb 1 machines a, le-leb machines mostMachines b, lt-leb 1 width h)
-
-      module _ (c : 1 ≤ width) where
-        pub many-cells : l .cells < width → false ≡ sizesGood l machines width me
-        unfolding sizesGood
-        many-cells h =
-            simp (le-leb 1 machines a, le-leb machines mostMachines b, le-leb 1 width c, lt-leb width (l .cells) h)
-
-        pub own-number : width ≤ l .cells → ltb me machines ≡ sizesGood l machines width me
-        unfolding sizesGood
-        own-number h =
-            simp (le-leb 1 machines a, le-leb machines mostMachines b, le-leb 1 width c, le-leb width (l .cells) h)
-
-pub sizes-width : (l : Limits) (machines width me : ℕ) → sizesGood l machines width me ≡ true → width ≤ l .cells
-unfolding sizesGood
-sizes-width l machines width me h =
-    let (a, b) = and-both (leb 1 machines) _ h in
-    let (c, d) = and-both (leb machines mostMachines) _ b in
-    let (e, f) = and-both (leb 1 width) _ d in
-    leb-true width (l .cells) (and-both (leb width (l .cells)) _ f .0)
 
 module _ (waiting issued done kept lost unheard : ℕ) where
   pub long-queue : mostQueued < waiting → false ≡ salesGood waiting issued done kept lost unheard
@@ -98,32 +66,17 @@ module _ (waiting issued done kept lost unheard : ℕ) where
 
 -- a place of the queue
 module _ (l : Limits) (width waiting i : ℕ) (o : Packed) where
-  module _ (h : i < waiting) where
-    pub place-long : l .bytes < o .len → false ≡ placeGood l width waiting i o
-    unfolding placeGood
-    place-long g = simp (lt-ltb i waiting h, lt-leb (o .len) (l .bytes) g)
+  pub place-below : i < waiting → placeGood l width waiting i o ≡ holds l width o
+  unfolding placeGood
+  place-below h = simp (lt-ltb i waiting h)
 
-    pub place-full :
-        (r : Bool) → o .len ≤ l .bytes → r ≡ wellFormed l width (unpacked o) && zerosFrom (o .bytes) (o .len) →
-        r ≡ placeGood l width waiting i o
-    unfolding placeGood
-    place-full r g e = e ∙ simp (lt-ltb i waiting h, le-leb (o .len) (l .bytes) g)
-
-  module _ (h : waiting ≤ i) where
-    pub place-left : (o .len ≡ 0 → ⊥) → false ≡ placeGood l width waiting i o
-    unfolding placeGood
-    place-left g = simp (le-ltb i waiting h, ne-eqb (o .len) 0 g)
-
-    pub place-blank : (r : Bool) → o .len ≡ 0 → r ≡ zerosFrom (o .bytes) 0 → r ≡ placeGood l width waiting i o
-    unfolding placeGood
-    place-blank r g e = e ∙ simp (le-ltb i waiting h, eq-eqb (o .len) 0 g)
+  pub place-past : waiting ≤ i → placeGood l width waiting i o ≡ blank o
+  unfolding placeGood
+  place-past h = simp (le-ltb i waiting h)
 
 -- what a machine in shape is known to hold
 pub record Good (l : Limits) (m : Machine) : Type 0 where
-  pub machines-least : 1 ≤ m .machines
-  pub machines-most : m .machines ≤ mostMachines
-  pub width-least : 1 ≤ m .width
-  pub width-most : m .width ≤ l .cells
+  pub sizes : Sizes l (m .machines) (m .width)
   pub own : m .me < m .machines
   pub queue-most : m .waiting ≤ mostQueued
   pub issued-most : m .issued ≤ mostIssued
@@ -138,26 +91,20 @@ pub record Good (l : Limits) (m : Machine) : Type 0 where
 
 module _ (l : Limits) (m : Machine) where
   pub good : shaped l m ≡ true → Good l m
-  unfolding shaped sizesGood salesGood
+  unfolding shaped salesGood
   good h =
-      let (sizes, a) = and-both _ _ h in
+      let (sizes, o) = and-both _ _ h in
+      let (own, a) = and-both _ _ o in
       let (sales, b) = and-both _ _ a in
       let (position, d) = and-both _ _ b in
       let (agreed, e) = and-both _ _ d in
       let (guess, f) = and-both _ _ e in
       let (notes, queue) = and-both _ _ f in
-      let (m1, s2) = and-both _ _ sizes in
-      let (m2, s3) = and-both _ _ s2 in
-      let (w1, s4) = and-both _ _ s3 in
-      let (w2, own) = and-both _ _ s4 in
       let (q1, t2) = and-both _ _ sales in
       let (i1, t3) = and-both _ _ t2 in
       let (q2, heard) = and-both _ _ t3 in
       record {
-        machines-least = leb-true _ _ m1;
-        machines-most = leb-true _ _ m2;
-        width-least = leb-true _ _ w1;
-        width-most = leb-true _ _ w2;
+        sizes = in-size l (m .machines) (m .width) sizes;
         own = ltb-true _ _ own;
         queue-most = leb-true _ _ q1;
         issued-most = leb-true _ _ i1;
@@ -172,13 +119,10 @@ module _ (l : Limits) (m : Machine) where
 
   -- and a machine that holds it is in shape
   pub is-shaped : Good l m → shaped l m ≡ true
-  unfolding shaped sizesGood salesGood
+  unfolding shaped salesGood
   is-shaped g =
       simp (
-        le-leb _ _ (g .machines-least),
-        le-leb _ _ (g .machines-most),
-        le-leb _ _ (g .width-least),
-        le-leb _ _ (g .width-most),
+        are-sizes l (m .machines) (m .width) (g .sizes),
         lt-ltb _ _ (g .own),
         le-leb _ _ (g .queue-most),
         le-leb _ _ (g .issued-most),

@@ -10,7 +10,7 @@ use Rattle.operation.specs.Reading.{wellFormed}
 use Rattle.effect.specs.Running.{outcome, Came, came}
 use Rattle.effect.specs.Replaying.{mostQueued}
 use Rattle.effect.proofs.Cases.{came-some, came-none}
-use Rattle.machine.specs.Numbers.{mostIssued}
+use Rattle.state.specs.Numbers.{mostIssued}
 use Rattle.machine.specs.Shape.{shaped}
 use Rattle.machine.specs.Issuing.{notIssued, sold, issueKnown, issueOf}
 use Rattle.machine.specs.declared.Machine.{Machine}

@@ -16,7 +16,8 @@ use Rattle.operation.specs.Reading.{wellFormed}
 use Rattle.effect.specs.Running.{filled, outcome}
 use Rattle.effect.specs.Replaying.{mostQueued}
 use Rattle.effect.proofs.Keeping.{outcome-keeps}
-use Rattle.machine.specs.Numbers.{mostIssued, mostDecided, noteCount}
+use Rattle.state.specs.Numbers.{mostIssued, mostDecided}
+use Rattle.machine.specs.Numbers.{noteCount}
 use Rattle.machine.specs.Shape.{shaped}
 use Rattle.machine.specs.Issuing.{sold, soldOn, issueKnown, issueOf}
 use Rattle.machine.specs.Noting.{written, noteKnown, noteOf}
@@ -31,7 +32,7 @@ use Rattle.machine.proofs.KeptStates.{sold-good, written-good, own-good
 use Rattle.machine.proofs.InShape.{Good, good, is-shaped}
 use Rattle.machine.proofs.Recording.{as-issued-waits}
 use Rattle.machine.proofs.Copying.{copy-facts}
-use Rattle.machine.proofs.KeptCounts.{counts-kept, counts-filled}
+use Rattle.state.proofs.KeptCounts.{counts-kept, counts-filled}
 
 -- issue
 pub issue-known-keeps :

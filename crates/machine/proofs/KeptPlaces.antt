@@ -7,20 +7,19 @@ use mathlib.Core.Path.{_≡_, refl, sym, _∙_}
 use lib.Dec.{ltb, eqb}
 use lib.ListN.{length, getD, set, drop, replicate, length-drop, getD-replicate, List·getD-append}
 use lib.Seq.{getD-set-same, getD-set-other, getD-drop, getD-append-add}
-use borrow.Author.Tests.{lt-ltb, le-ltb, le-leb, ltb-true, ltb-false, eqb-true, eqb-false}
+use borrow.Author.Tests.{lt-ltb, le-ltb, ltb-true, ltb-false, eqb-true, eqb-false}
 use Rattle.basics.specs.Every.{every}
 use Rattle.basics.proofs.Every.{every-at, every-all}
 use Rattle.operation.specs.Limits.{Limits}
 use Rattle.operation.specs.Packing.{packed, empty, nothing}
 use Rattle.operation.specs.Reading.{wellFormed}
 use Rattle.operation.specs.declared.Packed.{Packed}
-use Rattle.operation.proofs.Packing.{len-packed, unpacked-packed, packed-zeros, zeros-are}
-use Rattle.operation.proofs.WellFormed.{formed, op-of}
 use Rattle.effect.specs.Replaying.{mostQueued}
 use Rattle.machine.specs.Shape.{placeGood}
 use Rattle.machine.specs.Queueing.{advanced}
 use Rattle.machine.specs.declared.Machine.{Machine}
-use Rattle.machine.proofs.InShape.{Good}
+use Rattle.state.proofs.Holding.{packed-held, empty-blank}
+use Rattle.machine.proofs.InShape.{Good, place-below, place-past}
 
 -- a place keeps its shape when the queue's length and its own place fall by as many
 place-moved :
@@ -36,23 +35,7 @@ place-moved l width waiting n i o h = go (ltb i (waiting - n)) refl
     go false e = let f = ltb-false i (waiting - n) e in simp (e, le-ltb (n + i) waiting (omega arith))
 
 pub blank-place : (l : Limits) (width waiting i : ℕ) → waiting ≤ i → placeGood l width waiting i (empty l) ≡ true
-unfolding placeGood
-blank-place l width waiting i h = simp (le-ltb i waiting h, zeros-are (l .bytes))
-
-place-packed :
-    (l : Limits) (width waiting i : ℕ) (op : List ℕ) → i < waiting → length op ≤ l .bytes →
-    wellFormed l width op ≡ true → placeGood l width waiting i (packed l op) ≡ true
-unfolding placeGood
-place-packed l width waiting i op h short w =
-    simp (
-      lt-ltb i waiting h,
-      len-packed l op,
-      le-leb (length op) (l .bytes) short,
-      rw (len-packed l op) at
-          (unpacked-packed l op),
-      w,
-      packed-zeros l op,
-    )
+blank-place l width waiting i h = place-past l width waiting i (empty l) h ∙ empty-blank l
 
 -- a place other than the last keeps its shape when the queue grows
 place-longer :
@@ -116,11 +99,10 @@ module _ (l : Limits) (m : Machine) (g : Good l m) (sized : length (m .queue) �
       (λ i. placeGood l (m .width) (m .waiting + 1) i (getD (set (m .queue) (m .waiting) (packed l op)) i nothing))
       mostQueued (λ i lt. go i lt (eqb i (m .waiting)) refl)
     where
-      short : length op ≤ l .bytes
-      short = let p = op-of l (m .width) op w in formed l (m .width) op (p .0) (p .1) .bytes
-
       joined : placeGood l (m .width) (m .waiting + 1) (m .waiting) (packed l op) ≡ true
-      joined = place-packed l (m .width) (m .waiting + 1) (m .waiting) op (omega arith) short w
+      joined =
+          place-below l (m .width) (m .waiting + 1) (m .waiting) (packed l op) (omega arith) ∙ packed-held l
+          (m .width) op w
 
       go :
           (i : ℕ) → i < mostQueued → (t : Bool) → eqb i (m .waiting) ≡ t →

@@ -5,25 +5,28 @@ use mathlib.Core.Bool.{Bool, true, false, not}
 use mathlib.Core.List.{List}
 use mathlib.Core.Path.{_≡_, refl}
 use lib.ListN.{length, getD, replicate, getD-replicate}
+use borrow.Author.Tests.{lt-ltb}
 use Rattle.basics.specs.Counts.{counts}
 use Rattle.basics.proofs.Every.{every-all}
 use Rattle.operation.specs.Limits.{Limits}
 use Rattle.operation.specs.Packing.{empty, nothing}
 use Rattle.operation.specs.Reading.{wellFormed}
-use Rattle.effect.specs.Running.{cell, filled, outcome, Came, came}
+use Rattle.effect.specs.Running.{bit, cell, filled, outcome, Came, came}
 use Rattle.effect.specs.Replaying.{after, replay, queued, mostQueued}
 use Rattle.effect.proofs.Keeping.{Kept, after-keeps, replay-keeps}
-use Rattle.machine.specs.Numbers.{mostIssued, mostDecided, noteCount}
-use Rattle.machine.specs.Shape.{sizesGood, salesGood, placeGood, shaped}
+use Rattle.state.specs.Numbers.{mostIssued, mostDecided}
+use Rattle.machine.specs.Numbers.{noteCount}
+use Rattle.machine.specs.Shape.{salesGood, placeGood, shaped}
+use Rattle.state.specs.Sizes.{sizesGood}
 use Rattle.machine.specs.Starting.{started, zeroMachine}
 use Rattle.machine.specs.Issuing.{sold}
 use Rattle.machine.specs.Noting.{written}
-use Rattle.machine.specs.Recording.{bit, ownTaken, otherTaken}
+use Rattle.machine.specs.Recording.{ownTaken, otherTaken}
 use Rattle.machine.specs.Copying.{copied}
 use Rattle.machine.specs.Queueing.{advanced}
 use Rattle.machine.specs.declared.Machine.{Machine}
 use Rattle.machine.proofs.InShape.{Good}
-use Rattle.machine.proofs.KeptCounts.{cell-most, counts-kept, counts-set, counts-filled, counts-zeros}
+use Rattle.state.proofs.KeptCounts.{cell-most, counts-kept, counts-set, counts-filled, counts-zeros}
 use Rattle.machine.proofs.KeptPlaces.{blank-place, places-advanced, places-joined}
 
 -- one more heard of is kept or lost
@@ -45,10 +48,7 @@ pub sold-good :
     counts guess (m .width) (l .held) ≡ true → Good l (sold l m op guess .machine)
 unfolding sold
 sold-good l m g sized op guess a b w k = record {
-  machines-least = g .machines-least;
-  machines-most = g .machines-most;
-  width-least = g .width-least;
-  width-most = g .width-most;
+  sizes = g .sizes;
   own = g .own;
   queue-most = omega arith;
   issued-most = omega arith;
@@ -65,10 +65,7 @@ sold-good l m g sized op guess a b w k = record {
 pub written-good : (l : Limits) (m : Machine) (k i : ℕ) → Good l m → k < noteCount → Good l (written m k i .machine)
 unfolding written
 written-good l m k i g h = record {
-  machines-least = g .machines-least;
-  machines-most = g .machines-most;
-  width-least = g .width-least;
-  width-most = g .width-most;
+  sizes = g .sizes;
   own = g .own;
   queue-most = g .queue-most;
   issued-most = g .issued-most;
@@ -90,10 +87,7 @@ pub own-good :
     counts (ran .cells) (m .width) (l .held) ≡ true → Good l (ownTaken l m ran .machine)
 unfolding ownTaken
 own-good l m ran g sized a b k = record {
-  machines-least = g .machines-least;
-  machines-most = g .machines-most;
-  width-least = g .width-least;
-  width-most = g .width-most;
+  sizes = g .sizes;
   own = g .own;
   queue-most = omega (arith, g .queue-most);
   issued-most = g .issued-most;
@@ -112,10 +106,7 @@ pub other-good :
     counts cells (m .width) (l .held) ≡ true → Good l (otherTaken l m cells .machine)
 unfolding otherTaken
 other-good l m cells g b k = record {
-  machines-least = g .machines-least;
-  machines-most = g .machines-most;
-  width-least = g .width-least;
-  width-most = g .width-most;
+  sizes = g .sizes;
   own = g .own;
   queue-most = g .queue-most;
   issued-most = g .issued-most;
@@ -138,10 +129,7 @@ pub copied-good :
     Good l (copied l m position cells left .machine)
 unfolding copied
 copied-good l m position cells left g sized a b k = record {
-  machines-least = g .machines-least;
-  machines-most = g .machines-most;
-  width-least = g .width-least;
-  width-most = g .width-most;
+  sizes = g .sizes;
   own = g .own;
   queue-most = omega (arith, g .queue-most);
   issued-most = g .issued-most;
@@ -159,14 +147,15 @@ copied-good l m position cells left g sized a b k = record {
 
 -- a fresh machine is in shape, and the all-zero one is not
 pub fresh-shaped :
-    (l : Limits) (machines me : ℕ) (first : List ℕ) → sizesGood l machines (length first) me ≡ true →
-    counts first (length first) (l .held) ≡ true → shaped l
-    (started l machines (length first) me (filled l first)) ≡ true
+    (l : Limits) (machines me : ℕ) (first : List ℕ) → sizesGood l machines (length first) ≡ true →
+    me < machines → counts first (length first) (l .held) ≡ true →
+    shaped l (started l machines (length first) me (filled l first)) ≡ true
 unfolding shaped salesGood
-fresh-shaped l machines me first s k =
+fresh-shaped l machines me first s own k =
     let c = counts-filled l (length first) first refl k in
     simp (
       s,
+      lt-ltb me machines own,
       c,
       counts-zeros noteCount (l .held),
       every-all

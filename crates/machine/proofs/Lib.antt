@@ -7,7 +7,6 @@ pub mod Noting
 pub mod Asking
 pub mod Recording
 pub mod Copying
-pub mod KeptCounts
 pub mod KeptPlaces
 pub mod KeptStates
 pub mod Keeping

@@ -1,9 +1,9 @@
 -- Laws of the queue: what leaves, what moves up, and that what is left can be replayed. Assumes nothing.
 use Prim.Native.Nat.{ℕ, _+_, _-_, _≤_, _<_}
 use native.Mathlib.Omega.{arith}
-use mathlib.Core.Bool.{Bool, true, false, _&&_}
+use mathlib.Core.Bool.{Bool, true, false}
 use mathlib.Core.List.{List}
-use mathlib.Core.Path.{_≡_, refl, _∙_}
+use mathlib.Core.Path.{_≡_, refl, sym, _∙_}
 use lib.Dec.{leb}
 use lib.ListN.{
   length,
@@ -17,21 +17,19 @@ use lib.ListN.{
   List·getD-append,
 }
 use lib.Seq.{take-all, drop-at, getD-drop}
-use borrow.Author.Tests.{lt-ltb, leb-true, leb-false}
+use borrow.Author.Tests.{leb-true, leb-false}
 use Rattle.basics.specs.Over.{over}
-use Rattle.basics.specs.Counts.{zerosFrom}
-use Rattle.basics.proofs.Choice.{and-both}
 use Rattle.basics.proofs.Every.{every-at}
 use Rattle.operation.specs.Limits.{Limits}
-use Rattle.operation.specs.Packing.{unpacked, empty, nothing}
-use Rattle.operation.specs.Reading.{wellFormed}
+use Rattle.operation.specs.Packing.{empty, nothing}
 use Rattle.operation.specs.declared.Packed.{Packed}
 use Rattle.operation.proofs.WellFormed.{no-bytes}
 use Rattle.effect.specs.Replaying.{mostQueued, Sound, Ready}
 use Rattle.machine.specs.Shape.{placeGood}
 use Rattle.machine.specs.Queueing.{advanced}
 use Rattle.machine.specs.declared.Machine.{Machine}
-use Rattle.machine.proofs.InShape.{Good}
+use Rattle.state.proofs.Holding.{held-sound}
+use Rattle.machine.proofs.InShape.{Good, place-below}
 
 drop-replicate : {A : Type 0} (a : A) (k n : ℕ) → drop k (replicate (k + n) a) ≡ replicate n a
 drop-replicate a k n =
@@ -52,16 +50,7 @@ advance-end l n queue h e =
 pub place-sound :
     (l : Limits) (width waiting i : ℕ) (o : Packed) → i < waiting → placeGood l width waiting i o ≡ true →
     Sound l width o
-unfolding placeGood
-place-sound l width waiting i o h e =
-    let w : leb (o .len) (l .bytes) && (wellFormed l width (unpacked o) && zerosFrom (o .bytes) (o .len)) ≡ true =
-    rw (lt-ltb i waiting h) at e in
-    record {
-      fits =
-          leb-true (o .len) (l .bytes) (and-both (leb (o .len) (l .bytes)) _ w .0);
-      formed = and-both
-          (wellFormed l width (unpacked o)) _ (and-both (leb (o .len) (l .bytes)) _ w .1) .0;
-    }
+place-sound l width waiting i o h e = held-sound l width o (sym (place-below l width waiting i o h) ∙ e)
 
 -- and stands in the queue
 pub sound-there :

@@ -13,7 +13,7 @@ use Rattle.operation.specs.Limits.{Limits}
 use Rattle.operation.specs.Packing.{unpacked, nothing, sameBytes}
 use Rattle.operation.specs.Reading.{wellFormed}
 use Rattle.effect.specs.Running.{Came}
-use Rattle.machine.specs.Numbers.{mostIssued, mostDecided}
+use Rattle.state.specs.Numbers.{mostIssued, mostDecided}
 use Rattle.machine.specs.Shape.{shaped}
 use Rattle.machine.specs.Recording.{
   notTaken,

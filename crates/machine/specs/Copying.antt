@@ -11,7 +11,7 @@ use Rattle.basics.specs.declared.Answer.the-variants.{Done, OutOfShape, BadCopy
 use Rattle.operation.specs.Limits.{Limits}
 use Rattle.effect.specs.Running.{filled}
 use Rattle.effect.specs.Replaying.{replay, queued}
-use Rattle.machine.specs.Numbers.{mostIssued, mostDecided}
+use Rattle.state.specs.Numbers.{mostIssued, mostDecided}
 use Rattle.machine.specs.Shape.{shaped}
 use Rattle.machine.specs.Queueing.{advanced}
 use Rattle.machine.specs.declared.Copied.{Copied}

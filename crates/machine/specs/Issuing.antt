@@ -20,7 +20,7 @@ use Rattle.operation.specs.Packing.{packed}
 use Rattle.operation.specs.Reading.{wellFormed}
 use Rattle.effect.specs.Running.{outcome}
 use Rattle.effect.specs.Replaying.{mostQueued}
-use Rattle.machine.specs.Numbers.{mostIssued}
+use Rattle.state.specs.Numbers.{mostIssued}
 use Rattle.machine.specs.Shape.{shaped}
 use Rattle.machine.specs.declared.Issued.{Issued}
 use Rattle.machine.specs.declared.Machine.{Machine}

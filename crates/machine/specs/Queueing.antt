@@ -6,7 +6,7 @@ use Rattle.operation.specs.Limits.{Limits}
 use Rattle.operation.specs.Packing.{empty}
 use Rattle.operation.specs.declared.Packed.{Packed}
 use Rattle.effect.specs.Replaying.{mostQueued, Ready}
-use Rattle.machine.specs.Numbers.{mostIssued, mostDecided}
+use Rattle.state.specs.Numbers.{mostIssued, mostDecided}
 use Rattle.machine.specs.declared.Machine.{Machine}
 
 -- the first n leave, the others move up, and the last places are empty

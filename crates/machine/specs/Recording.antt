@@ -1,6 +1,6 @@
 -- Take a record. Refusals in the paper's order: 1, 9, 2, 10, 11, 12. Assumes nothing: these are definitions.
 use Prim.Native.Nat.{ℕ, _+_, _-_}
-use mathlib.Core.Bool.{Bool, true, false, not, _&&_}
+use mathlib.Core.Bool.{Bool, not, _&&_}
 use mathlib.Core.List.{List}
 use lib.Dec.{ltb, eqb}
 use lib.ListN.{getD}
@@ -18,9 +18,9 @@ use Rattle.basics.specs.declared.Answer.the-variants.{
 use Rattle.operation.specs.Limits.{Limits}
 use Rattle.operation.specs.Packing.{unpacked, nothing, sameBytes}
 use Rattle.operation.specs.Reading.{wellFormed}
-use Rattle.effect.specs.Running.{outcome, Came, came}
+use Rattle.effect.specs.Running.{outcome, Came, came, bit}
 use Rattle.effect.specs.Replaying.{replay, queued}
-use Rattle.machine.specs.Numbers.{mostIssued, mostDecided}
+use Rattle.state.specs.Numbers.{mostIssued, mostDecided}
 use Rattle.machine.specs.Shape.{shaped}
 use Rattle.machine.specs.Queueing.{advanced}
 use Rattle.machine.specs.declared.Taken.{Taken}
@@ -28,11 +28,6 @@ use Rattle.machine.specs.declared.Machine.{Machine}
 
 abbrev pub notTaken : Answer → Machine → Taken
 notTaken answer m = record { answer = answer; outcome = 0; machine = m }
-
--- 1 where it succeeded, 0 where it failed
-abbrev pub bit : Bool → ℕ
-bit true = 1
-bit false = 0
 
 -- an own record: the front of the queue goes, done grows, kept or lost grows by the outcome, the guess stays
 unfoldable pub ownTaken : Limits → Machine → Came → Taken

@@ -5,19 +5,16 @@ use lib.Dec.{ltb, leb, eqb}
 use lib.ListN.{getD}
 use Rattle.basics.specs.Choice.{if_then_else_}
 use Rattle.basics.specs.Every.{every}
-use Rattle.basics.specs.Counts.{counts, zerosFrom}
+use Rattle.basics.specs.Counts.{counts}
 use Rattle.operation.specs.Limits.{Limits}
-use Rattle.operation.specs.Packing.{unpacked, nothing}
-use Rattle.operation.specs.Reading.{wellFormed}
+use Rattle.operation.specs.Packing.{nothing}
 use Rattle.operation.specs.declared.Packed.{Packed}
 use Rattle.effect.specs.Replaying.{mostQueued}
-use Rattle.machine.specs.Numbers.{mostMachines, noteCount, mostIssued, mostDecided}
+use Rattle.state.specs.Sizes.{sizesGood}
+use Rattle.state.specs.Holding.{holds, blank}
+use Rattle.state.specs.Numbers.{mostIssued, mostDecided}
+use Rattle.machine.specs.Numbers.{noteCount}
 use Rattle.machine.specs.declared.Machine.{Machine}
-
--- sizes in range, own number below machines
-unfoldable pub sizesGood : Limits → ℕ → ℕ → ℕ → Bool
-sizesGood l machines width me =
-    leb 1 machines && (leb machines mostMachines && (leb 1 width && (leb width (l .cells) && ltb me machines)))
 
 -- issued − done is the queue's length, which is at most 16; kept + lost + unheard = done
 unfoldable pub salesGood : ℕ → ℕ → ℕ → ℕ → ℕ → ℕ → Bool
@@ -26,24 +23,17 @@ salesGood waiting issued done kept lost unheard =
     (leb issued mostIssued && (eqb (done + waiting) issued && eqb (kept + (lost + unheard)) done))
 
 module _ (l : Limits) where
-  -- a place of the queue that holds an operation: well formed, and zeros after its bytes
-  abbrev pub waits : ℕ → Packed → Bool
-  waits width o =
-      leb (o .len) (l .bytes) && (wellFormed l width (unpacked o) && zerosFrom (o .bytes) (o .len))
-
-  -- a place past the queue's length
-  abbrev pub blank : Packed → Bool
-  blank o = eqb (o .len) 0 && zerosFrom (o .bytes) 0
-
+  -- a place of the queue, and one past its length
   unfoldable pub placeGood : ℕ → ℕ → ℕ → Packed → Bool
-  placeGood width waiting i o = if ltb i waiting then waits width o else blank o
+  placeGood width waiting i o = if ltb i waiting then holds l width o else blank o
 
   unfoldable pub shaped : Machine → Bool
   shaped m =
-      sizesGood l (m .machines) (m .width) (m .me) &&
+      sizesGood l (m .machines) (m .width) &&
+      (ltb (m .me) (m .machines) &&
       (salesGood (m .waiting) (m .issued) (m .done) (m .kept) (m .lost) (m .unheard) &&
       (leb (m .position) mostDecided &&
       (counts (m .agreed) (m .width) (l .held) &&
       (counts (m .guess) (m .width) (l .held) &&
       (counts (m .notes) noteCount (l .held) &&
-      every mostQueued (λ i. placeGood (m .width) (m .waiting) i (getD (m .queue) i nothing)))))))
+      every mostQueued (λ i. placeGood (m .width) (m .waiting) i (getD (m .queue) i nothing))))))))

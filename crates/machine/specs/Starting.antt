@@ -2,6 +2,7 @@
 use Prim.Native.Nat.{ℕ}
 use mathlib.Core.Bool.{_&&_}
 use mathlib.Core.List.{List}
+use lib.Dec.{ltb}
 use lib.ListN.{length, replicate}
 use Rattle.basics.specs.Choice.{if_then_else_}
 use Rattle.basics.specs.Counts.{counts}
@@ -11,7 +12,7 @@ use Rattle.operation.specs.Packing.{empty}
 use Rattle.effect.specs.Running.{filled}
 use Rattle.effect.specs.Replaying.{mostQueued}
 use Rattle.machine.specs.Numbers.{noteCount}
-use Rattle.machine.specs.Shape.{sizesGood}
+use Rattle.state.specs.Sizes.{sizesGood}
 use Rattle.machine.specs.declared.Machine.{Machine}
 use Rattle.machine.specs.declared.Made.{Made}
 
@@ -44,6 +45,6 @@ badStart l = record { answer = BadStart; machine = zeroMachine l }
 -- 17 where a size, a first count or the own number is out of range
 unfoldable pub freshOf : Limits → ℕ → ℕ → List ℕ → Made
 freshOf l machines me first =
-    if sizesGood l machines (length first) me && counts first (length first) (l .held)
+    if sizesGood l machines (length first) && (ltb me machines && counts first (length first) (l .held))
     then record { answer = Done; machine = started l machines (length first) me (filled l first) }
     else badStart l

@@ -4,9 +4,8 @@ use mathlib.Core.Bool.{not}
 use mathlib.Core.List.{List, map}
 use lib.ListN.{set, drop}
 use Rattle.operation.specs.Limits.{Limits}
-use Rattle.effect.specs.Running.{cell, outcome, came}
+use Rattle.effect.specs.Running.{cell, outcome, came, bit}
 use Rattle.effect.specs.Replaying.{queued}
-use Rattle.machine.specs.Recording.{bit}
 use Rattle.machine.specs.Guesstimate.{Shared, Composite, State, effectOfAll}
 use Rattle.machine.specs.declared.Machine.{Machine}
 

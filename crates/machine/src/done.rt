@@ -5,12 +5,13 @@ ghost use lib.ListN.{length};
 ghost use Rattle.operation.specs.Limits.{limits};
 ghost use Rattle.effect.specs.Running.{did};
 ghost use Rattle.effect.specs.Replaying.{mostQueued, Ready};
-ghost use Rattle.machine.specs.Numbers.{mostIssued, mostDecided, noteCount};
+ghost use Rattle.state.specs.Numbers.{mostIssued, mostDecided};
+ghost use Rattle.machine.specs.Numbers.{noteCount};
 ghost use Rattle.machine.specs.Issuing.{sold};
 ghost use Rattle.machine.specs.Noting.{written};
 ghost use Rattle.machine.specs.Starting.{started, badStart};
 ghost use Rattle.machine.specs.Queueing.{advanced, Own, Leaving};
-ghost use Rattle.machine.specs.Recording.{bit as outcomeBit, ownTaken, otherTaken};
+ghost use Rattle.machine.specs.Recording.{ownTaken, otherTaken};
 ghost use Rattle.machine.specs.Copying.{copied};
 use crate::Copied;
 use crate::Issued;
@@ -21,6 +22,7 @@ use crate::Taken;
 use basics::Answer;
 use effect::Cells;
 use effect::Queue;
+use effect::bit;
 use operation::BYTES;
 use operation::CELLS;
 use operation::Packed;
@@ -136,12 +138,6 @@ pub fn advance(queue: Queue, n: usize) -> Queue
         i += 1;
     }
     next
-}
-
-fn bit(ok: bool) -> u8
-    ensures { λ r. ⌜ r ≡ outcomeBit ok ⌝ }
-{
-    if ok { 1 } else { 0 }
 }
 
 // The machine that starts with these cells.

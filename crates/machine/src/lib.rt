@@ -11,7 +11,7 @@ ghost use lib.ListN.{length};
 ghost use Rattle.operation.specs.Limits.{limits};
 ghost use Rattle.operation.specs.Reading.{wellFormed};
 ghost use Prim.Native.Nat.{_<_};
-ghost use Rattle.machine.specs.Numbers.{mostDecided};
+ghost use Rattle.state.specs.Numbers.{mostDecided};
 ghost use Rattle.machine.specs.Shape.{shaped};
 ghost use Rattle.machine.specs.Starting.{freshOf};
 ghost use Rattle.machine.specs.Issuing.{issueOf, issueKnown};
@@ -95,21 +95,24 @@ pub struct Copied {
 }
 
 impl Machine {
-    pub const MACHINES: usize = 40;
+    pub const MACHINES: usize = state::MACHINES;
 
     pub const QUEUE: usize = effect::QUEUE;
 
     pub const NOTES: usize = NOTES;
 
-    pub const ISSUED: u64 = 1_000_000_000;
+    pub const ISSUED: u64 = state::ISSUED;
 
-    pub const DECIDED: u64 = 40_000_000_000;
+    pub const DECIDED: u64 = state::DECIDED;
 
     // A fresh machine: the first counts are its cells and its guess, and all else is 0.
     pub fn fresh(machines: usize, me: usize, first: &[u32]) -> Made
         ensures { λ r. ⌜ r ≡ freshOf limits machines me (now (first .entry)) ⌝ }
     {
-        if !shape::sizes(machines, first.len(), me) {
+        if !state::sizes(machines, first.len()) {
+            return done::refuse_start();
+        }
+        if machines <= me {
             return done::refuse_start();
         }
         if !are_counts(first, first.len(), HELD) {
@@ -292,7 +295,10 @@ impl Machine {
     pub fn shaped(self) -> bool
         ensures { λ r. ⌜ r ≡ shaped limits self ⌝ }
     {
-        if !shape::sizes(self.machines, self.width, self.me) {
+        if !state::sizes(self.machines, self.width) {
+            return false;
+        }
+        if self.machines <= self.me {
             return false;
         }
         if !shape::sales(
@@ -309,11 +315,11 @@ impl Machine {
             return false;
         }
         let agreed = self.agreed;
-        if !shape::cells(agreed, self.width) {
+        if !state::cells(agreed, self.width) {
             return false;
         }
         let guess = self.guess;
-        if !shape::cells(guess, self.width) {
+        if !state::cells(guess, self.width) {
             return false;
         }
         let notes = self.notes;

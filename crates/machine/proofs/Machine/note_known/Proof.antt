@@ -26,7 +26,7 @@ returns-2 c = let s = c .before .before .before .before in
 
 write-requires : tie.Need-write-requires
 write-requires c κs = let r = c .before .before .before in
-    let g = good limits (r .args .self) (r .pre) .width-most in
+    let g = good limits (r .args .self) (r .pre) .sizes .width-most in
     (omega arith, omega arith)
 
 returns-3 : tie.Need-returns-3

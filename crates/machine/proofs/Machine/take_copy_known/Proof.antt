@@ -38,7 +38,7 @@ cells-of-requires : tie.Need-cells-of-requires
 cells-of-requires c κs = let r = c .before .before .before .before .before .before .before in
     let w = copy-facts limits (r .args .self) (r .args .position) (r .args .cells .now) (r .args .decided)
     (r .pre .1) .1 in
-    omega (arith, good limits (r .args .self) (r .pre .0) .width-most)
+    omega (arith, good limits (r .args .self) (r .pre .0) .sizes .width-most)
 
 copy-requires : tie.Need-copy-requires
 copy-requires c κs = let r = c .before .before .before .before .before .before .before .before .before in

@@ -1,34 +1,24 @@
-use Rattle.machine.proofs.InShape.{place-long, place-full, place-left, place-blank}
 use Rattle.operation.specs.Limits.{limits}
+use Rattle.machine.proofs.InShape.{place-below, place-past}
 use native.Mathlib.Omega.{arith}
+use mathlib.Core.Path.{sym, _∙_}
 use borrow.Author.Needs.{needs}
 use Rattle.machine.proofs.shape.place.Statement.{statement}
 use Rattle.machine.proofs.shape.place.Tie as tie
+use Rattle.state.proofs.blank.Reads as blank-reads
+use Rattle.state.proofs.holds.Reads as holds-reads
 
-index-requires : tie.Need-index-requires
-index-requires c κs = search needs
+holds-requires : tie.Need-holds-requires
+holds-requires c κs = search needs
 
 returns : tie.Need-returns
-returns c = place-long limits _ _ _ _ (omega arith) (omega arith)
+returns c = c .holds .ensures ∙ sym (place-below limits _ _ _ _ (omega arith))
 
-full-requires : tie.Need-full-requires
-full-requires c κs = search needs
+blank-requires : tie.Need-blank-requires
+blank-requires c κs = search needs
 
 returns-2 : tie.Need-returns-2
-returns-2 c =
-    place-full limits _ _ _ _ (omega arith) _ (omega arith)
-    (rw (c .before .before .before .index .ensures) at (c .full .ensures))
-
-returns-3 : tie.Need-returns-3
-returns-3 c = place-left limits _ _ _ _ (omega arith) (omega arith)
-
-zeros-requires : tie.Need-zeros-requires
-zeros-requires c κs = search needs
-
-returns-4 : tie.Need-returns-4
-returns-4 c = place-blank limits _ _ _ _ (omega arith) _ (omega arith) (c .zeros .ensures)
+returns-2 c = c .blank .ensures ∙ sym (place-past limits _ _ _ _ (omega arith))
 
 pub place-spec : {M : Type 1} → statement M
-place-spec =
-    tie.close
-    (tie.spec index-requires returns full-requires returns-2 returns-3 zeros-requires returns-4)
+place-spec = tie.close (tie.spec holds-requires returns blank-requires returns-2)

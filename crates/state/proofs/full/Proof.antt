@@ -3,8 +3,8 @@ use lib.Seq.{length-take-le}
 use mathlib.Core.Path.{sym, _∙_}
 use native.Mathlib.Omega.{arith}
 use borrow.Author.Needs.{needs}
-use Rattle.machine.proofs.shape.full.Statement.{statement}
-use Rattle.machine.proofs.shape.full.Tie as tie
+use Rattle.state.proofs.full.Statement.{statement}
+use Rattle.state.proofs.full.Tie as tie
 
 array-share-prefix-bytes : tie.Need-array-share-prefix-bytes
 array-share-prefix-bytes c = search needs
