@@ -91,6 +91,26 @@ fn is_count(x: u32, i: usize, n: usize, most: u32) -> bool
     if i < n { x <= most } else { x == 0 }
 }
 
+// The same of longer numbers.
+pub fn are_numbers(xs: &[u64], n: usize, most: u64) -> bool
+    ensures { λ r. ⌜ r ≡ counts (now (xs .entry)) n most ⌝ }
+{
+    let mut i: usize = 0;
+    while i < xs.len() {
+        if !is_number(xs[i], i, n, most) {
+            return false;
+        }
+        i += 1;
+    }
+    true
+}
+
+fn is_number(x: u64, i: usize, n: usize, most: u64) -> bool
+    ensures { λ r. ⌜ r ≡ (if ltb i n then leb x most else eqb x 0) ⌝ }
+{
+    if i < n { x <= most } else { x == 0 }
+}
+
 // Whether every place of `xs` from the `n`-th on is 0.
 pub fn are_zeros(xs: &[u8], n: usize) -> bool
     ensures { λ r. ⌜ r ≡ zerosFrom (now (xs .entry)) n ⌝ }

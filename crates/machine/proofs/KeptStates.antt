@@ -26,7 +26,7 @@ use Rattle.machine.specs.Copying.{copied}
 use Rattle.machine.specs.Queueing.{advanced}
 use Rattle.machine.specs.declared.Machine.{Machine}
 use Rattle.machine.proofs.InShape.{Good}
-use Rattle.state.proofs.KeptCounts.{cell-most, counts-kept, counts-set, counts-filled, counts-zeros}
+use Rattle.state.proofs.KeptCounts.{cell-most, counts-kept, counts-set, counts-filled, counts-none}
 use Rattle.machine.proofs.KeptPlaces.{blank-place, places-advanced, places-joined}
 
 -- one more heard of is kept or lost
@@ -157,7 +157,7 @@ fresh-shaped l machines me first s own k =
       s,
       lt-ltb me machines own,
       c,
-      counts-zeros noteCount (l .held),
+      counts-none noteCount noteCount (l .held),
       every-all
           (λ i. placeGood l (length first) 0 i (getD (replicate mostQueued (empty l)) i nothing)) mostQueued
           (λ i h. rw (getD-replicate mostQueued i (empty l) nothing h) (blank-place l (length first) 0 i zero-le)),

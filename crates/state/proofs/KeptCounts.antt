@@ -79,13 +79,13 @@ counts-filled l width first w h =
         let b = ltb-false i (length first) e in
         simp (le-ltb i width (omega arith), over-past first (l .cells) i b)
 
-pub counts-zeros : (n most : ℕ) → counts (replicate n 0) n most ≡ true
+pub counts-none : (k n most : ℕ) → counts (replicate k 0) n most ≡ true
 unfolding counts
-counts-zeros n most =
-    every-all (countAt (replicate n 0) n most) (length (replicate n 0)) (λ i b. go i (ltb i n) refl)
+counts-none k n most =
+    every-all (countAt (replicate k 0) n most) (length (replicate k 0)) (λ i b. go i (ltb i n) refl)
   where
     go :
         (i : ℕ) (t : Bool) → ltb i n ≡ t →
-        (if t then leb (getD (replicate n 0) i 0) most else eqb (getD (replicate n 0) i 0) 0) ≡ true
-    go i true e = simp (all-zero n i, le-leb 0 most zero-le)
-    go i false e = simp (all-zero n i)
+        (if t then leb (getD (replicate k 0) i 0) most else eqb (getD (replicate k 0) i 0) 0) ≡ true
+    go i true e = simp (all-zero k i, le-leb 0 most zero-le)
+    go i false e = simp (all-zero k i)
