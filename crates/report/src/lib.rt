@@ -40,20 +40,36 @@ pub fn counts(name: &[u8], counts: &[u32], n: usize) {
     words(b"=");
     let mut i = 0;
     while i < counts.len() {
-        count(counts[i], i, n);
+        listed(wide(counts[i]), i, n);
         i += 1;
     }
 }
 
-// The `i`-th count, with a comma before it where it is not the first.
-fn count(x: u32, i: usize, n: usize) {
+// The same of longer numbers.
+pub fn numbers(name: &[u8], numbers: &[u64], n: usize) {
+    words(b" ");
+    words(name);
+    words(b"=");
+    let mut i = 0;
+    while i < numbers.len() {
+        listed(numbers[i], i, n);
+        i += 1;
+    }
+}
+
+fn wide(x: u32) -> u64 {
+    x as u64
+}
+
+// The `i`-th number, with a comma before it where it is not the first.
+fn listed(x: u64, i: usize, n: usize) {
     if n <= i {
         return;
     }
     if 0 < i {
         words(b",");
     }
-    number(x as u64);
+    number(x);
 }
 
 // Bytes in hexadecimal.

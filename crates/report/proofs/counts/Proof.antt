@@ -3,7 +3,8 @@ use Prim.Native.Nat.{_-_, _≤_}
 use lib.ListN.{length}
 use Rattle.report.proofs.counts.Statement.{statement}
 use Rattle.report.proofs.counts.Tie as tie
-use Rattle.report.proofs.count.Reads as count-reads
+use Rattle.report.proofs.listed.Reads as listed-reads
+use Rattle.report.proofs.wide.Reads as wide-reads
 use Rattle.report.proofs.words.Reads as words-reads
 
 abbrev Inv-loop : tie.InvT-loop
@@ -30,14 +31,17 @@ words-requires-3 c κs = search needs
 loop-holds : tie.Need-loop-holds Inv-loop μ-loop
 loop-holds c = search needs
 
-mul-count : tie.Need-mul-count Inv-loop μ-loop
-mul-count c = search needs
+mul-wide : tie.Need-mul-wide Inv-loop μ-loop
+mul-wide c = search needs
 
-shared-slice-read-count : tie.Need-shared-slice-read-count Inv-loop μ-loop
-shared-slice-read-count c = search needs
+shared-slice-read-wide : tie.Need-shared-slice-read-wide Inv-loop μ-loop
+shared-slice-read-wide c = search needs
 
-count-requires : tie.Need-count-requires Inv-loop μ-loop
-count-requires c κs = search needs
+wide-requires : tie.Need-wide-requires Inv-loop μ-loop
+wide-requires c κs = search needs
+
+listed-requires : tie.Need-listed-requires Inv-loop μ-loop
+listed-requires c κs = search needs
 
 add-i : tie.Need-add-i Inv-loop μ-loop
 add-i c = search needs
@@ -63,9 +67,10 @@ counts-spec =
     slice-aggregate-words-2
     words-requires-3
     loop-holds
-    mul-count
-    shared-slice-read-count
-    count-requires
+    mul-wide
+    shared-slice-read-wide
+    wide-requires
+    listed-requires
     add-i
     loop-less
     loop-again
