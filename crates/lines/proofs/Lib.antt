@@ -1,0 +1,8 @@
+-- The laws of lines, by subject; the crates above cite them too.
+pub mod Decimals
+pub mod Fields
+pub mod Hexes
+pub mod Stepping
+pub mod Passing
+pub mod Sharing
+pub mod Exact
