@@ -2,7 +2,7 @@
 // of refusals; its `_known` form is for a state that is known to be in shape.
 mod answers;
 mod done;
-mod ring;
+pub mod ring;
 mod shape;
 
 ghost use mathlib.Core.Path.{_≡_};

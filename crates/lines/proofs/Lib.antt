@@ -4,5 +4,7 @@ pub mod Fields
 pub mod Hexes
 pub mod Stepping
 pub mod Passing
+pub mod Laying
 pub mod Sharing
+pub mod Appending
 pub mod Exact

@@ -1,10 +1,31 @@
 -- The same first lines: what one line more says. Assumes nothing.
 use Prim.Native.Nat.{ℕ, suc, _+_, _<_}
 use native.Mathlib.Omega.{arith}
+use mathlib.Core.Bool.{Bool, true, _&&_}
 use mathlib.Core.List.{List, [], _∷_, _++_, append-assoc}
 use mathlib.Core.Path.{_≡_, refl, ap₂, _∙_}
+use lib.Dec.{ltb}
+use borrow.Author.Tests.{ltb-true}
+use Rattle.basics.proofs.Choice.{and-both}
 use Rattle.lines.specs.Fields.{LF}
 use Rattle.lines.specs.Same.{NoLF, Whole, none, more, SameLines}
+
+-- bytes that are all above LF
+unfoldable pub highs : List ℕ → Bool
+highs [] = true
+highs (b ∷ bs) = ltb LF b && highs bs
+
+pub high-no-lf : (s : List ℕ) → highs s ≡ true → NoLF s
+unfolding highs NoLF
+high-no-lf [] h = tt
+high-no-lf (b ∷ bs) h =
+    let (p, q) = and-both (ltb LF b) (highs bs) h in
+    let lt = ltb-true LF b p in
+    ((λ e. omega (arith, lt, e)), high-no-lf bs q)
+
+pub no-lf-more : (b : ℕ) (s : List ℕ) → (b ≡ LF → ⊥) → NoLF s → NoLF (b ∷ s)
+unfolding NoLF
+no-lf-more b s h k = (h, k)
 
 -- two texts that are equal up to their first LF
 pub record Cut (a x b y : List ℕ) : Type 0 where

@@ -5,3 +5,4 @@ pub mod Fields
 pub mod Same
 pub mod Texts
 pub mod Steps
+pub mod Placing

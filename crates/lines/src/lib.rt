@@ -1,4 +1,6 @@
 // Texts of lines: fields, which are a key, a number and the byte that ends it, and bytes in hexadecimal.
+pub mod put;
+
 ghost use mathlib.Core.Path.{_≡_};
 ghost use mathlib.Core.List.{List, _∷_};
 ghost use Prim.Native.Nat.{ℕ};

@@ -4,7 +4,6 @@ use Rattle.lines.proofs.Stepping.{key-on, key-off, ends, first-low, low
 use borrow.Author.Needs.{needs}
 use Rattle.lines.proofs.take_byte.Statement.{statement}
 use Rattle.lines.proofs.take_byte.Tie as tie
-use Rattle.lines.proofs.digit.Reads as digit-reads
 
 shared-slice-read-if2 : tie.Need-shared-slice-read-if2
 shared-slice-read-if2 c = search needs

@@ -3,10 +3,18 @@ use native.Mathlib.Omega.{arith}
 use Prim.Native.Nat.{_-_}
 use lib.ListN.{length}
 use Rattle.lines.specs.Steps.{FieldSays}
-use Rattle.lines.proofs.Passing.{Inner, inner-start, past-end, stops-short, goes-on, goes-wrong, goes-out, out-kept}
+use Rattle.lines.proofs.Passing.{
+  Inner,
+  inner-start,
+  past-end,
+  stops-short,
+  goes-on,
+  goes-wrong,
+  goes-out,
+  out-kept,
+}
 use Rattle.lines.proofs.Cursor.field.Statement.{statement}
 use Rattle.lines.proofs.Cursor.field.Tie as tie
-use Rattle.lines.proofs.take_byte.Reads as take-byte-reads
 
 abbrev Inv-loop : tie.InvT-loop
 Inv-loop s key f start at₀ seen₀ value₀ at seen value = Inner s start key f at seen value
