@@ -2,4 +2,9 @@
 pub mod Values
 pub mod NextLine
 pub mod WrittenLines
+pub mod Stages
+pub mod Sofar
+pub mod Reached
 pub mod Saved
+pub mod Room
+pub mod Finishing

@@ -199,3 +199,28 @@ module _ (l : Limits) (vs : List Value) where
           number-read key low top t v r w (sym (ap (onWant l ns es t) w) ∙ e)
       go record-line w = entry-read t v r w (sym (ap (onWant l ns es t) w) ∙ e)
       go no-line w = never v r (sym (ap (onWant l ns es t) w) ∙ e)
+
+  -- and what that value is
+  pub number-value :
+      (key : List ℕ) (low top : ℕ) (t : List ℕ) (v : Value) (r : List ℕ) →
+      want l ns (length es) ≡ field-line key low top → hubForm l .next vs t ≡ got v r →
+      (n : ℕ) × ((v ≡ number key n) × ((low ≤ n) × (n ≤ top)))
+  number-value key low top t v r w e =
+      let i = on-number l key (field key low top LF t) v r (sym (ap (onWant l ns es t) w) ∙ e) in
+      let s = field-sound key low top LF t (i .0) r (i .1 .0) in
+      (i .0, (i .1 .1, s .1))
+
+  pub entry-value :
+      (t : List ℕ) (v : Value) (r : List ℕ) → want l ns (length es) ≡ record-line → hubForm l .next vs t ≡ got v r →
+      (e : Decision) ×
+      ((v ≡ entry e) × ((e .machine ≤ machinesIn ns - 1) × (Bytes (e .op) × (fits l ns es e ≡ true))))
+  entry-value t v r w e =
+      let i = on-machine (field rec= 0 (machinesIn ns - 1) comma t) v r (sym (ap (onWant l ns es t) w) ∙ e) in
+      let s = field-sound rec= 0 (machinesIn ns - 1) comma t (i .machine) (i .rest) (i .machine-read) in
+      let h = hex-sound (l .bytes) (i .rest) (i .op) r (i .op-read) in
+      (record { machine = i .machine; op = i .op }, (i .is, (s .1 .1, (h .bytes, i .fitting))))
+
+  pub nothing-read :
+      {B : Type 0} (t : List ℕ) (v : Value) (r : List ℕ) → want l ns (length es) ≡ no-line →
+      hubForm l .next vs t ≡ got v r → B
+  nothing-read t v r w e = never v r (sym (ap (onWant l ns es t) w) ∙ e)

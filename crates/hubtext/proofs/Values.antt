@@ -1,7 +1,7 @@
 -- Laws of values: one more at the end. Assumes nothing.
 use Prim.Native.Nat.{ℕ}
-use mathlib.Core.List.{List, [], _∷_, _++_, map}
-use mathlib.Core.Path.{_≡_, refl, ap}
+use mathlib.Core.List.{List, [], _∷_, _++_, map, append-nil}
+use mathlib.Core.Path.{_≡_, refl, ap, _∙_}
 use Rattle.hub.specs.History.{Decision}
 use Rattle.hubtext.specs.Values.{Value, number, entry, numbersOf, entriesOf}
 
@@ -37,3 +37,21 @@ pub entries-of-entries : (es : List Decision) → entriesOf (map entry es) ≡ e
 unfolding entriesOf
 entries-of-entries [] = refl
 entries-of-entries (e ∷ es) = ap (λ x. e ∷ x) (entries-of-entries es)
+
+-- one value more
+module _ (vs : List Value) where
+  pub numbers-number : (key : List ℕ) (n : ℕ) → numbersOf (vs ++ (number key n ∷ [])) ≡ numbersOf vs ++ (n ∷ [])
+  unfolding numbersOf
+  numbers-number key n = numbers-append vs (number key n ∷ [])
+
+  pub entries-number : (key : List ℕ) (n : ℕ) → entriesOf (vs ++ (number key n ∷ [])) ≡ entriesOf vs
+  unfolding entriesOf
+  entries-number key n = entries-append vs (number key n ∷ []) ∙ append-nil (entriesOf vs)
+
+  pub numbers-entry : (e : Decision) → numbersOf (vs ++ (entry e ∷ [])) ≡ numbersOf vs
+  unfolding numbersOf
+  numbers-entry e = numbers-append vs (entry e ∷ []) ∙ append-nil (numbersOf vs)
+
+  pub entries-entry : (e : Decision) → entriesOf (vs ++ (entry e ∷ [])) ≡ entriesOf vs ++ (e ∷ [])
+  unfolding entriesOf
+  entries-entry e = entries-append vs (entry e ∷ [])
