@@ -8,3 +8,4 @@ pub mod Reached
 pub mod Saved
 pub mod Room
 pub mod Finishing
+pub mod Arranged
