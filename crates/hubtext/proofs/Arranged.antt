@@ -2,22 +2,31 @@
 use Prim.Native.Nat.{ℕ, zero, suc, _+_, _≤_, _<_}
 use native.Mathlib.Decide.{decLt}
 use native.Mathlib.Omega.{arith}
-use mathlib.Core.Bool.{Bool, true, false}
 use mathlib.Core.List.{List, [], _∷_, _++_, map, append-assoc, append-nil, map-append}
 use mathlib.Core.Path.{_≡_, refl, sym, ap, subst, _∙_}
 use lib.Dec.{ltb, eqb}
-use lib.ListN.{length, getD, length-append}
-use borrow.Author.Tests.{eq-eqb, ne-eqb, lt-ltb, le-ltb}
+use lib.ListN.{length}
+use borrow.Author.Tests.{ne-eqb, lt-ltb, le-ltb}
 use Rattle.basics.specs.Choice.{if_then_else_}
 use Rattle.operation.specs.Limits.{Limits}
-use Rattle.lines.specs.Texts.{Reads, Chain, start, step}
+use Rattle.lines.specs.Texts.{Chain, start, step}
 use Rattle.hub.specs.History.{Decision}
 use Rattle.hubtext.specs.Keys.{form=, machines=, cells=, cell=, next=}
 use Rattle.hubtext.specs.Values.{Value, number, entry, numbersOf, entriesOf, machinesIn, widthIn}
 use Rattle.hubtext.specs.Reading.{hubForm}
 use Rattle.hubtext.proofs.Values.{numbers-number, entries-number, numbers-entry, entries-entry}
 use Rattle.hubtext.proofs.NextLine.{number-value, entry-value, nothing-read}
-use Rattle.hubtext.proofs.Stages.{Stage, at-form, at-machines, at-cells, at-cell, at-next, at-record, at-end, stage}
+use Rattle.hubtext.proofs.Stages.{
+  Stage,
+  at-form,
+  at-machines,
+  at-cells,
+  at-cell,
+  at-next,
+  at-record,
+  at-end,
+  stage,
+}
 use Rattle.hubtext.proofs.Sofar.{Sofar, number-old}
 use Rattle.hubtext.proofs.Reached.{reached}
 
@@ -32,7 +41,7 @@ unfoldable pub keyed : ℕ → ℕ → List ℕ → List Value
 keyed w i [] = []
 keyed w i (n ∷ ns) = number (keyAt w i) n ∷ keyed w (i + 1) ns
 
-keyed-more :
+pub keyed-more :
     (w i : ℕ) (ns : List ℕ) (n : ℕ) →
     keyed w i (ns ++ (n ∷ [])) ≡ keyed w i ns ++ (number (keyAt w (i + length ns)) n ∷ [])
 unfolding keyed
@@ -59,19 +68,19 @@ keyed-early v w i (n ∷ ns) h =
 
 -- the key of a line, by its number
 module _ (w i : ℕ) where
-  key-form : i ≡ 0 → form= ≡ keyAt w i
+  pub key-form : i ≡ 0 → form= ≡ keyAt w i
   unfolding keyAt
   key-form e = rw e
 
-  key-machines : i ≡ 1 → machines= ≡ keyAt w i
+  pub key-machines : i ≡ 1 → machines= ≡ keyAt w i
   unfolding keyAt
   key-machines e = rw e
 
-  key-cells : i ≡ 2 → cells= ≡ keyAt w i
+  pub key-cells : i ≡ 2 → cells= ≡ keyAt w i
   unfolding keyAt
   key-cells e = rw e
 
-  key-cell : 3 ≤ i → i < 3 + w → cell= ≡ keyAt w i
+  pub key-cell : 3 ≤ i → i < 3 + w → cell= ≡ keyAt w i
   unfolding keyAt
   key-cell h k =
       simp (
@@ -81,7 +90,7 @@ module _ (w i : ℕ) where
         lt-ltb i (3 + w) k,
       )
 
-  key-next : 3 ≤ i → 3 + w ≤ i → next= ≡ keyAt w i
+  pub key-next : 3 ≤ i → 3 + w ≤ i → next= ≡ keyAt w i
   unfolding keyAt
   key-next h k =
       simp (

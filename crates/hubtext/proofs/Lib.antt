@@ -9,3 +9,4 @@ pub mod Saved
 pub mod Room
 pub mod Finishing
 pub mod Arranged
+pub mod Complete

@@ -8,3 +8,4 @@ pub mod Laying
 pub mod Sharing
 pub mod Appending
 pub mod Exact
+pub mod Chains
