@@ -33,7 +33,7 @@ pub none-decided : total (replicate mostMachines 0) ≡ 0
 unfolding total
 none-decided = sum-zeros mostMachines mostMachines
 
-blank-record : (l : Limits) → recordBlank (emptyRecord l) ≡ true
+pub blank-record : (l : Limits) → recordBlank (emptyRecord l) ≡ true
 unfolding recordBlank
 blank-record l = empty-blank l
 

@@ -10,3 +10,5 @@ pub mod Room
 pub mod Finishing
 pub mod Arranged
 pub mod Complete
+pub mod PlacedRecords
+pub mod MadeHubs

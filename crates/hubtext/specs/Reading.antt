@@ -93,11 +93,9 @@ module _ (l : Limits) where
       (set records (n % mostKept)
       (recordOf l (e .machine) (getD next (e .machine) 0 - suc (countOf (e .machine) es)) (e .op)))
 
-  -- the hub of a text's values
-  unfoldable pub hubOf : List Value → Hub
-  hubOf vs =
-      let ns = numbersOf vs in
-      let es = entriesOf vs in
+  -- the hub of a text's numbers and records
+  abbrev pub made : List ℕ → List Decision → Hub
+  made ns es =
       let next = over (length (nextsIn ns)) (nextsIn ns) (replicate mostMachines 0) in
       record {
         machines = machinesIn ns;
@@ -106,3 +104,6 @@ module _ (l : Limits) where
         next = next;
         records = placed next (total next - length es) es (replicate mostKept (emptyRecord l));
       }
+
+  unfoldable pub hubOf : List Value → Hub
+  hubOf vs = made (numbersOf vs) (entriesOf vs)

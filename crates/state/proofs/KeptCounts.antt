@@ -58,26 +58,32 @@ counts-set xs n most k v lt h small =
     go i b false e =
         rw (getD-set-other xs k i v 0 (eqb-false i k e)) (every-at (countAt xs n most) (length xs) i h b)
 
--- first counts, and zeros after them, are counts
+-- counts, and zeros after them, are counts
+pub counts-over :
+    (n most width : ℕ) (first : List ℕ) → length first ≡ width → counts first (length first) most ≡ true →
+    counts (over (length first) first (replicate n 0)) width most ≡ true
+unfolding counts
+counts-over n most width first w h =
+    every-all (countAt cells width most) (length cells) (λ i b. go i (ltb i (length first)) refl)
+  where
+    cells : List ℕ
+    cells = over (length first) first (replicate n 0)
+
+    go : (i : ℕ) (t : Bool) → ltb i (length first) ≡ t → countAt cells width most i ≡ true
+    go i true e =
+        let b = ltb-true i (length first) e in
+        let m = count-most first (length first) most h i b in
+        simp (lt-ltb i width (omega arith), over-front first n i b, le-leb (getD first i 0) most m)
+    go i false e =
+        let b = ltb-false i (length first) e in
+        simp (le-ltb i width (omega arith), over-past first n i b)
+
 pub counts-filled :
     (l : Limits) (width : ℕ) (first : List ℕ) → length first ≡ width → counts first (length first)
     (l .held) ≡ true →
     counts (filled l first) width (l .held) ≡ true
-unfolding counts filled
-counts-filled l width first w h =
-    every-all (countAt cells width (l .held)) (length cells) (λ i b. go i (ltb i (length first)) refl)
-  where
-    cells : List ℕ
-    cells = over (length first) first (replicate (l .cells) 0)
-
-    go : (i : ℕ) (t : Bool) → ltb i (length first) ≡ t → countAt cells width (l .held) i ≡ true
-    go i true e =
-        let b = ltb-true i (length first) e in
-        let m = count-most first (length first) (l .held) h i b in
-        simp (lt-ltb i width (omega arith), over-front first (l .cells) i b, le-leb (getD first i 0) (l .held) m)
-    go i false e =
-        let b = ltb-false i (length first) e in
-        simp (le-ltb i width (omega arith), over-past first (l .cells) i b)
+unfolding filled
+counts-filled l width first w h = counts-over (l .cells) (l .held) width first w h
 
 pub counts-none : (k n most : ℕ) → counts (replicate k 0) n most ≡ true
 unfolding counts
