@@ -12,3 +12,4 @@ pub mod Arranged
 pub mod Complete
 pub mod PlacedRecords
 pub mod MadeHubs
+pub mod MadeValues

@@ -61,14 +61,14 @@ module _ (l : Limits) (ns : List ℕ) (es : List Decision) (whole : Whole l ns e
   length-is : length ns ≡ 3 + widthIn ns + machinesIn ns
   length-is = omega (arith, s .few (whole .three), whole .numbers-all)
 
-  nexts-long : length nx ≡ machinesIn ns
+  pub nexts-long : length nx ≡ machinesIn ns
   nexts-long = length-drop (3 + widthIn ns) ns ∙ omega (arith, length-is)
 
   total-same : total next ≡ total nx
   unfolding total
   total-same = sum-same mostMachines (λ m. getD next m 0) (λ m. getD nx m 0) (padded-same nx mostMachines)
 
-  records-count : length es ≡ keptCount (total next)
+  pub records-count : length es ≡ keptCount (total next)
   records-count = rw total-same (omega (arith, s .kept, whole .records-all))
 
   -- the cells and nexts are counts
@@ -83,7 +83,7 @@ module _ (l : Limits) (ns : List ℕ) (es : List Decision) (whole : Whole l ns e
             (rw (getD-drop (3 + widthIn ns) ns i 0) (s .next-in (3 + widthIn ns + i) (omega arith) (whole .three))),
       )))
 
-  cells-long : length (cellsIn ns) ≡ widthIn ns
+  pub cells-long : length (cellsIn ns) ≡ widthIn ns
   cells-long = length-take-le (widthIn ns) (drop 3 ns) (rw (length-drop 3 ns) (omega (arith, length-is)))
 
   cells-good : counts (filled l (cellsIn ns)) (widthIn ns) (l .held) ≡ true
@@ -105,7 +105,7 @@ module _ (l : Limits) (ns : List ℕ) (es : List Decision) (whole : Whole l ns e
   all-records = omega (arith, records-count)
 
   -- each record in its place
-  at : (i : ℕ) → i < length es → recordAt ring (first + i) ≡ entered l next (getD es i noDecision) (drop (suc i) es)
+  pub at : (i : ℕ) → i < length es → recordAt ring (first + i) ≡ entered l next (getD es i noDecision) (drop (suc i) es)
   at =
       placed-at l next first es (replicate mostKept (emptyRecord l)) (length-replicate mostKept (emptyRecord l))
       few-records
