@@ -13,3 +13,4 @@ pub mod Complete
 pub mod PlacedRecords
 pub mod MadeHubs
 pub mod MadeValues
+pub mod HubValues

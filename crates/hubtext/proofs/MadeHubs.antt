@@ -33,7 +33,7 @@ use Rattle.hubtext.proofs.Room.{sum-same}
 use Rattle.hubtext.proofs.PlacedRecords.{entered, placed-long, placed-other, placed-at, entered-numbered}
 
 -- a list with zeros after it has the same numbers
-padded-same : (xs : List ℕ) (n i : ℕ) → getD (over (length xs) xs (replicate n 0)) i 0 ≡ getD xs i 0
+pub padded-same : (xs : List ℕ) (n i : ℕ) → getD (over (length xs) xs (replicate n 0)) i 0 ≡ getD xs i 0
 padded-same xs n i = go (decLt i (length xs))
   where
     go : Dec (i < length xs) → getD (over (length xs) xs (replicate n 0)) i 0 ≡ getD xs i 0

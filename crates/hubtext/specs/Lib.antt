@@ -4,3 +4,4 @@ pub mod Values
 pub mod Writing
 pub mod Reading
 pub mod Saving
+pub mod Real
