@@ -2,8 +2,8 @@
 use Prim.Native.Nat.{ℕ, zero, suc, _+_, _-_, _%_, _≤_, _<_, zero-le}
 use native.Mathlib.Decide.{decLt}
 use native.Mathlib.Omega.{arith}
-use mathlib.Core.Bool.{Bool, true, false, _&&_}
-use mathlib.Core.List.{List, [], _∷_, _++_, map, append-assoc, append-nil}
+use mathlib.Core.Bool.{true}
+use mathlib.Core.List.{List, [], _∷_, _++_, map, append-nil}
 use mathlib.Core.Path.{_≡_, refl, sym, ap, ap₂, subst, _∙_}
 use lib.Dec.{ltb, leb, eqb}
 use lib.ListN.{
@@ -13,7 +13,6 @@ use lib.ListN.{
   drop,
   replicate,
   length-append,
-  length-drop,
   length-replicate,
   getD-replicate,
   List·getD-eq-default,
@@ -21,7 +20,7 @@ use lib.ListN.{
 }
 use lib.Seq.{getD-take, getD-append-add, length-take-le, take-at, drop-at, drop-length, ext-getD}
 use borrow.Author.Tests.{eqb-true, leb-true, le-ltb}
-use Rattle.basics.specs.Counts.{zeroAt, counts, zerosFrom}
+use Rattle.basics.specs.Counts.{zeroAt, zerosFrom}
 use Rattle.basics.specs.Over.{over}
 use Rattle.basics.proofs.Choice.{and-both}
 use Rattle.basics.proofs.Every.{every-at}
@@ -43,7 +42,7 @@ use Rattle.hub.specs.declared.Hub.{Hub}
 use Rattle.hub.specs.declared.Record.{Record}
 use Rattle.hub.proofs.InShape.{Good, kept-good, kept-machine, kept-sound, place-past}
 use Rattle.hubtext.specs.Keys.{cell=, next=}
-use Rattle.hubtext.specs.Values.{Value, number, entry, numbersOf, entriesOf, machinesIn, widthIn, cellsIn, nextsIn}
+use Rattle.hubtext.specs.Values.{Value, number, entry, numbersOf, entriesOf, cellsIn, nextsIn}
 use Rattle.hubtext.specs.Writing.{entryOf, entriesFrom, keptEntries, valuesOf}
 use Rattle.hubtext.specs.Reading.{placed, made, hubForm, hubOf}
 use Rattle.hubtext.specs.Real.{Real}
@@ -55,12 +54,19 @@ use Rattle.hubtext.proofs.Values.{
   numbers-of-entries,
   entries-of-entries,
 }
-use Rattle.hubtext.proofs.Sofar.{Sofar, Entry}
+use Rattle.hubtext.proofs.Sofar.{Entry}
 use Rattle.hubtext.proofs.Complete.{Whole, whole-finished}
 use Rattle.hubtext.proofs.Arranged.{arranged}
 use Rattle.hubtext.proofs.MadeValues.{made-values}
 use Rattle.hubtext.proofs.Room.{sum-same}
-use Rattle.hubtext.proofs.PlacedRecords.{entered, placed-long, placed-other, placed-at, Entered, numbered-entered}
+use Rattle.hubtext.proofs.PlacedRecords.{
+  entered,
+  placed-long,
+  placed-other,
+  placed-at,
+  Entered,
+  numbered-entered,
+}
 use Rattle.hubtext.proofs.MadeHubs.{padded-same}
 
 -- zeros past a place

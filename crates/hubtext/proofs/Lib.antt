@@ -14,3 +14,4 @@ pub mod PlacedRecords
 pub mod MadeHubs
 pub mod MadeValues
 pub mod HubValues
+pub mod RoundTrips

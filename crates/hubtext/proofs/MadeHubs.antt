@@ -1,12 +1,11 @@
 -- The hub that a whole text makes is in shape, and its values are those of the text. Assumes nothing.
-use Prim.Native.Nat.{ℕ, zero, suc, _+_, _-_, _%_, _≤_, _<_, zero-le}
-use native.Mathlib.Decide.{decLt, ℕ-discrete}
+use Prim.Native.Nat.{ℕ, suc, _+_, _-_, _%_, _≤_, _<_}
+use native.Mathlib.Decide.{decLt}
 use native.Mathlib.Omega.{arith}
-use mathlib.Core.Bool.{Bool, true, false}
-use mathlib.Core.List.{List, [], _∷_, _++_, map}
-use mathlib.Core.Path.{_≡_, refl, sym, ap, subst, _∙_}
-use lib.Dec.{ltb, leb}
-use lib.ListN.{length, getD, take, drop, replicate, length-drop, length-replicate, getD-replicate, List·getD-eq-default}
+use mathlib.Core.Bool.{true}
+use mathlib.Core.List.{List}
+use mathlib.Core.Path.{_≡_, sym, ap, subst, _∙_}
+use lib.ListN.{length, getD, drop, replicate, length-drop, length-replicate, getD-replicate, List·getD-eq-default}
 use lib.Seq.{getD-drop, drop-length, length-take-le, getD-take}
 use borrow.Author.Tests.{le-leb, lt-ltb}
 use Rattle.basics.specs.Counts.{countAt, counts}
@@ -17,20 +16,19 @@ use Rattle.operation.specs.Limits.{Limits}
 use Rattle.effect.specs.Running.{filled}
 use Rattle.state.specs.Numbers.{mostMachines, mostIssued}
 use Rattle.state.proofs.KeptCounts.{counts-over, counts-filled}
-use Rattle.state.proofs.Holding.{packed-held, empty-blank}
-use Rattle.hub.specs.Ring.{mostKept, total, keptCount, recordOf, emptyRecord, noRecord, recordAt}
+use Rattle.state.proofs.Holding.{packed-held}
+use Rattle.hub.specs.Ring.{mostKept, total, keptCount, emptyRecord, noRecord, recordAt}
 use Rattle.hub.specs.Shape.{recordGood, recordBlank, placeGood, ringGood, numbered, numbersGood, shaped}
 use Rattle.hub.specs.History.{Decision, noDecision, countOf}
-use Rattle.hub.specs.declared.Hub.{Hub}
 use Rattle.hub.specs.declared.Record.{Record}
-use Rattle.hub.proofs.InShape.{Good, is-shaped, place-below, place-past}
+use Rattle.hub.proofs.InShape.{is-shaped, place-below, place-past}
 use Rattle.hub.proofs.Fresh.{blank-record}
-use Rattle.hubtext.specs.Values.{Value, numbersOf, entriesOf, machinesIn, widthIn, cellsIn, nextsIn}
+use Rattle.hubtext.specs.Values.{machinesIn, widthIn, cellsIn, nextsIn}
 use Rattle.hubtext.specs.Reading.{placed, made}
 use Rattle.hubtext.proofs.Sofar.{Sofar, Entry}
 use Rattle.hubtext.proofs.Complete.{Whole}
 use Rattle.hubtext.proofs.Room.{sum-same}
-use Rattle.hubtext.proofs.PlacedRecords.{entered, placed-long, placed-other, placed-at, entered-numbered}
+use Rattle.hubtext.proofs.PlacedRecords.{entered, placed-other, placed-at, entered-numbered}
 
 -- a list with zeros after it has the same numbers
 pub padded-same : (xs : List ℕ) (n i : ℕ) → getD (over (length xs) xs (replicate n 0)) i 0 ≡ getD xs i 0

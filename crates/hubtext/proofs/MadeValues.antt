@@ -1,5 +1,5 @@
 -- The values of the hub that a whole text makes are those of the text. Assumes nothing.
-use Prim.Native.Nat.{ℕ, zero, suc, _+_, _-_, _≤_, _<_}
+use Prim.Native.Nat.{ℕ, suc, _+_, _-_, _≤_, _<_}
 use native.Mathlib.Omega.{arith}
 use mathlib.Core.List.{List, [], _∷_, _++_, map, append-assoc}
 use mathlib.Core.Path.{_≡_, refl, sym, ap, ap₂, subst, _∙_}
@@ -7,19 +7,17 @@ use lib.ListN.{length, getD, take, drop, replicate, take-append-drop}
 use lib.Seq.{take-at, take-length, drop-drop}
 use Rattle.basics.specs.Over.{over}
 use Rattle.operation.specs.Limits.{Limits}
-use Rattle.operation.specs.Packing.{unpacked, packed}
 use Rattle.operation.proofs.Packing.{unpacked-packed}
 use Rattle.effect.specs.Running.{filled}
 use Rattle.state.specs.Numbers.{mostMachines}
-use Rattle.hub.specs.Ring.{mostKept, total, keptCount, recordAt, emptyRecord}
+use Rattle.hub.specs.Ring.{total, recordAt}
 use Rattle.hub.specs.History.{Decision, noDecision}
 use Rattle.hub.specs.declared.Hub.{Hub}
 use Rattle.hub.specs.declared.Record.{Record}
 use Rattle.hubtext.specs.Keys.{form=, machines=, cells=, cell=, next=}
-use Rattle.hubtext.specs.Values.{Value, number, entry, machinesIn, widthIn, cellsIn, nextsIn}
+use Rattle.hubtext.specs.Values.{number, entry, machinesIn, widthIn, cellsIn, nextsIn}
 use Rattle.hubtext.specs.Writing.{entryOf, entriesFrom, keptEntries, valuesOf}
 use Rattle.hubtext.specs.Reading.{made}
-use Rattle.hubtext.proofs.Sofar.{Sofar, Entry}
 use Rattle.hubtext.proofs.Arranged.{keyAt, keyed, arranged, key-cell, key-next}
 use Rattle.hubtext.proofs.Complete.{Whole}
 use Rattle.hubtext.proofs.PlacedRecords.{entered}

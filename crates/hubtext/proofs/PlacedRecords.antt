@@ -2,13 +2,13 @@
 use Prim.Native.Nat.{ℕ, zero, suc, _+_, _-_, _%_, _≤_, _<_}
 use native.Mathlib.Decide.{decLt, ℕ-discrete}
 use native.Mathlib.Omega.{arith}
-use mathlib.Core.Bool.{Bool, true, false, _&&_}
-use mathlib.Core.List.{List, [], _∷_, _++_}
+use mathlib.Core.Bool.{true, _&&_}
+use mathlib.Core.List.{List, [], _∷_}
 use mathlib.Core.Path.{_≡_, refl, sym, ap, subst, _∙_}
 use lib.Dec.{eqb}
 use lib.ListN.{length, getD, set, drop, length-set, List·getD-eq-default}
-use lib.Seq.{getD-set-same, getD-set-other, drop-cons, drop-length}
-use borrow.Author.Tests.{eq-eqb, ne-eqb, eqb-true, eqb-false}
+use lib.Seq.{getD-set-same, getD-set-other, drop-cons}
+use borrow.Author.Tests.{eq-eqb, ne-eqb, eqb-true}
 use Rattle.basics.specs.Choice.{if_then_else_}
 use Rattle.basics.proofs.Choice.{and-both}
 use Rattle.operation.specs.Limits.{Limits}
@@ -16,8 +16,7 @@ use Rattle.hub.specs.Ring.{mostKept, recordOf, noRecord, recordAt}
 use Rattle.hub.specs.Shape.{numbered}
 use Rattle.hub.specs.History.{Decision, noDecision, countOf}
 use Rattle.hub.specs.declared.Record.{Record}
-use Rattle.hub.proofs.KeptRing.{at-new, at-other}
-use Rattle.hub.proofs.Numbering.{follows, step, follows-so}
+use Rattle.hub.proofs.KeptRing.{at-new}
 use Rattle.hubtext.specs.Reading.{placed}
 
 module _ (l : Limits) (next : List ℕ) where
