@@ -13,5 +13,6 @@ pub mod Complete
 pub mod PlacedRecords
 pub mod MadeHubs
 pub mod MadeValues
+pub mod MadeReal
 pub mod HubValues
 pub mod RoundTrips

@@ -126,6 +126,21 @@ module _ (l : Limits) (ns : List ℕ) (es : List Decision) (whole : Whole l ns e
   record-good e later own =
       simp (lt-ltb (e .machine) (machinesIn ns) (own .machine-in), packed-held l (widthIn ns) (e .op) (own .formed))
 
+  -- what stands in a place of the ring: a record of an entry below the number decided, and nothing past it
+  pub place-full :
+      (j : ℕ) → j < mostKept → j < total next →
+      (i : ℕ) × ((i < length es) × (getD ring j noRecord ≡ entered l next (getD es i noDecision) (drop (suc i) es)))
+  place-full j h q =
+      let i = (j + mostKept - first % mostKept) % mostKept in
+      let here : j ≡ (first + i) % mostKept = omega (arith, h, records-count, q) in
+      let lt : i < length es = omega (arith, h, records-count, q) in
+      (i, (lt, ap (λ x. getD ring x noRecord) here ∙ at i lt))
+
+  pub place-empty : (j : ℕ) → j < mostKept → total next ≤ j → getD ring j noRecord ≡ emptyRecord l
+  place-empty j h q =
+      placed-other l next first es (replicate mostKept (emptyRecord l)) j
+      (λ i k p. omega (arith, p, k, records-count, q, h)) ∙ getD-replicate mostKept j (emptyRecord l) noRecord h
+
   ring-good : ringGood l (machinesIn ns) (widthIn ns) (total next) ring ≡ true
   unfolding ringGood
   ring-good =
@@ -137,19 +152,13 @@ module _ (l : Limits) (ns : List ℕ) (es : List Decision) (whole : Whole l ns e
           (j : ℕ) → j < mostKept → Dec (j < total next) →
           placeGood l (machinesIn ns) (widthIn ns) (total next) j (getD ring j noRecord) ≡ true
       go j h (yes q) =
-          let i = (j + mostKept - first % mostKept) % mostKept in
-          let here : j ≡ (first + i) % mostKept = omega (arith, h, records-count, q) in
-          let lt : i < length es = omega (arith, h, records-count, q) in
+          let (i, (lt, is)) = place-full j h q in
           place-below l (machinesIn ns) (widthIn ns) (getD ring j noRecord) (total next) j q ∙
-          (ap (recordGood l (machinesIn ns) (widthIn ns))
-          (ap (λ x. getD ring x noRecord) here ∙ at i lt) ∙ record-good (getD es i noDecision) (drop (suc i) es)
+          (ap (recordGood l (machinesIn ns) (widthIn ns)) is ∙ record-good (getD es i noDecision) (drop (suc i) es)
           (s .each i lt))
       go j h (no q) =
           place-past l (machinesIn ns) (widthIn ns) (getD ring j noRecord) (total next) j (omega (arith, q)) ∙
-          (ap recordBlank
-          (placed-other l next first es (replicate mostKept (emptyRecord l)) j
-          (λ i k p. omega (arith, p, k, records-count, q, h)) ∙ getD-replicate mostKept j (emptyRecord l) noRecord h) ∙
-          blank-record l)
+          (ap recordBlank (place-empty j h (omega (arith, q))) ∙ blank-record l)
 
   -- so the hub is in shape
   pub made-shaped : shaped l (made l ns es) ≡ true

@@ -25,6 +25,7 @@ use Rattle.hubtext.proofs.Finishing.{lawful}
 use Rattle.hubtext.proofs.Complete.{finished-whole}
 use Rattle.hubtext.proofs.MadeHubs.{made-shaped}
 use Rattle.hubtext.proofs.MadeValues.{made-values}
+use Rattle.hubtext.proofs.MadeReal.{made-real}
 use Rattle.hubtext.proofs.HubValues.{hub-finished, hub-again}
 
 -- the empty ATOMIC is an operation wherever there may be cells
@@ -46,12 +47,15 @@ read-written h s r =
 -- the hub of a good text's values is in shape, and has them
 pub good-values :
     (vs : List Value) → Finished (hubForm limits) vs →
-    (shaped limits (hubOf limits vs) ≡ true) × (valuesOf (hubOf limits vs) ≡ vs)
+    (shaped limits (hubOf limits vs) ≡ true) × (Real limits (hubOf limits vs) × (valuesOf (hubOf limits vs) ≡ vs))
 unfolding hubOf
 good-values vs a =
     let w = finished-whole limits vs a in (
       made-shaped limits (numbersOf vs) (entriesOf vs) (w .0),
-      made-values limits (numbersOf vs) (entriesOf vs) (w .0) ∙ sym (w .1),
+      (
+        made-real limits (numbersOf vs) (entriesOf vs) (w .0),
+        made-values limits (numbersOf vs) (entriesOf vs) (w .0) ∙ sym (w .1),
+      ),
     )
 
 -- a text that is read gives, written, the same bytes
@@ -61,7 +65,7 @@ pub written-read :
 written-read t vs e =
     let r = good-read (hubForm limits) hub-lawful t vs e in
     let g = good-values vs (r .0) in
-    (g .0, ap (textOf (hubForm limits)) (g .1) ∙ sym (r .1))
+    (g .0, ap (textOf (hubForm limits)) (g .1 .1) ∙ sym (r .1))
 
 -- where line n is told, no hub's text has the same first n lines
 pub none-has :
@@ -74,10 +78,13 @@ none-has t n e h s r =
 -- and for every smaller number some hub's text has
 pub some-has :
     (t : List ℕ) (n : ℕ) → read (hubForm limits) t ≡ wrongAt n → (k : ℕ) → k < n →
-    (h : Hub) × ((shaped limits h ≡ true) × SameLines k t (hubText limits h))
+    (h : Hub) × ((shaped limits h ≡ true) × (Real limits h × SameLines k t (hubText limits h)))
 some-has t n e k lt =
     let (vs, (a, same)) = wrong-read (hubForm limits) hub-lawful t n e .shared-before k lt in
     let g = good-values vs a in (
       hubOf limits vs,
-      (g .0, subst (λ (x : List Value). SameLines k t (textOf (hubForm limits) x)) (sym (g .1)) same),
+      (
+        g .0,
+        (g .1 .0, subst (λ (x : List Value). SameLines k t (textOf (hubForm limits) x)) (sym (g .1 .1)) same),
+      ),
     )
