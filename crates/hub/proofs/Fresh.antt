@@ -38,7 +38,8 @@ unfolding recordBlank
 blank-record l = empty-blank l
 
 fresh-ring :
-    (l : Limits) (machines width n : ℕ) → n ≡ 0 → ringGood l machines width n (replicate mostKept (emptyRecord l)) ≡ true
+    (l : Limits) (machines width n : ℕ) → n ≡ 0 → ringGood l machines width n (replicate mostKept (emptyRecord l))
+    ≡ true
 unfolding ringGood
 fresh-ring l machines width n z =
     every-all (λ i. placeGood l machines width n i (getD (replicate mostKept (emptyRecord l)) i noRecord)) mostKept
@@ -68,7 +69,8 @@ unfolding shaped sizesGood
 zero-not-shaped l = refl
 
 -- and the history of a fresh hub is empty
-pub fresh-history : (l : Limits) (machines width : ℕ) (cells : List ℕ) → HasDecided l cells [] (started l machines width cells)
+pub fresh-history : (l : Limits) (machines width : ℕ) (cells : List ℕ) → HasDecided l cells [] (started l machines
+    width cells)
 unfolding replay countOf
 fresh-history l machines width cells = record {
   places = length-replicate mostKept (emptyRecord l);

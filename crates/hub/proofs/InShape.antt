@@ -25,7 +25,8 @@ module _ (l : Limits) (machines width : ℕ) (r : Record) where
   unfolding recordGood
   no-such-machine h = simp (le-ltb (r .machine) machines h)
 
-  pub by-operation : (t : Bool) → r .machine < machines → t ≡ holds l width (r .op) → t ≡ recordGood l machines width r
+  pub by-operation : (t : Bool) → r .machine < machines → t ≡ holds l width (r .op) → t ≡ recordGood l machines
+      width r
   unfolding recordGood
   by-operation t h e = e ∙ simp (lt-ltb (r .machine) machines h)
 

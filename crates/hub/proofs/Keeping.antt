@@ -36,11 +36,13 @@ module _ (l : Limits) (h : Hub) (sized : Sized h) (machine : ℕ) (op : List ℕ
   unfolding taken after
   taken-good g a b w = record {
     sizes = g .sizes;
-    cells = counts-kept l (h .width) (h .cells) (ran l h op .cells) (after-keeps l (h .width) op (h .cells)) (g .cells);
+    cells = counts-kept l (h .width) (h .cells) (ran l h op .cells) (after-keeps l (h .width) op (h .cells)) (g
+        .cells);
     next =
         counts-set (h .next) (h .machines) mostIssued machine (nextOf h machine + 1) a (g .next) (omega arith);
     ring = subst (λ (n : ℕ). ringGood l (h .machines) (h .width) n rs ≡ true) (sym grows)
-        (ring-kept l (h .machines) (h .width) (decided h) machine (nextOf h machine) op (h .records) (sized .places) a w
+        (ring-kept l (h .machines) (h .width) (decided h) machine (nextOf h machine) op (h .records) (sized
+        .places) a w
         (g .ring));
     numbers = numbers-kept l (h .next) (h .records) machine op (sized .places) (sized .machines) within (g .numbers);
   }

@@ -93,7 +93,8 @@ walk l next records m op n places machines a h d q =
       set-set next m (getD next m 0 + 1) (getD next m 0),
       set-getD next m 0,
     )
-    (alike records rs (keptCount d - 1) n next (omega arith) (λ j b c. at-other records n new places j b (omega arith)) ∙
+    (alike records rs (keptCount d - 1) n next (omega arith) (λ j b c. at-other records n new places j b (omega
+    arith)) ∙
     fewer records (keptCount d - 1) (keptCount n - (keptCount d - 1)) n next (rw x h))
   where
     new : Record

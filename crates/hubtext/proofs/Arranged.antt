@@ -206,6 +206,7 @@ module _ (l : Limits) where
       go ih (at-record q b d w) =
           let (e, (is, _)) = entry-value l vs _ v [] w (reads []) in
           subst
-          (λ (x : Value). vs ++ (x ∷ []) ≡ arranged (numbersOf (vs ++ (x ∷ []))) (entriesOf (vs ++ (x ∷ [])))) (sym is)
+          (λ (x : Value). vs ++ (x ∷ []) ≡ arranged (numbersOf (vs ++ (x ∷ []))) (entriesOf (vs ++ (x ∷ [])))) (sym
+          is)
           (one-record vs e ih)
       go ih (at-end q b d w) = nothing-read l vs _ v [] w (reads [])

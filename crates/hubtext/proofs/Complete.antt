@@ -185,7 +185,8 @@ module _ (l : Limits) (ns : List ℕ) (es : List Decision) (whole : Whole l ns e
       x : Next pre n
       x = next-number pre rest n e
 
-      wanted : want l (numbersOf (keyed w 0 pre)) (length (entriesOf (keyed w 0 pre))) ≡ field-line (x .key) (x .low) (x .top)
+      wanted : want l (numbersOf (keyed w 0 pre)) (length (entriesOf (keyed w 0 pre))) ≡ field-line (x .key) (x
+          .low) (x .top)
       wanted = rw (keyed-numbers w 0 pre, keyed-entries w 0 pre) (x .wanted)
 
       done : hubForm l .done (keyed w 0 pre) ≡ false

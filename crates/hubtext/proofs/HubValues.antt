@@ -236,9 +236,16 @@ module _ (l : Limits) (h : Hub) (g : Good l h) (real : Real l h) where
   unfolding numbersGood countOf
   walked =
       numbered-entered l (h .next) (h .records) (d - k) es
-      (λ i q. ap (λ (x : Decision). x .machine) (entry-at (h .records) (d - k) k i (omega (arith, q, entries-long (h .records) (d - k) k)))) k
-      (omega (arith, entries-long (h .records) (d - k) k)) (h .next) (λ m. rw none (omega arith)) (λ m. rw none zero-le)
-      (let z : d ≡ d - k + k = omega arith in subst (λ (x : ℕ). numbered (h .records) k x (h .next) ≡ true) z (g .numbers))
+      (λ i q. ap (λ (x : Decision). x .machine) (entry-at (h .records) (d - k) k i (omega (
+        arith,
+        q,
+        entries-long
+            (h .records) (d - k) k,
+      )))) k
+      (omega (arith, entries-long (h .records) (d - k) k)) (h .next) (λ m. rw none (omega arith)) (λ m. rw none
+      zero-le)
+      (let z : d ≡ d - k + k = omega arith in subst (λ (x : ℕ). numbered (h .records) k x (h .next) ≡ true) z (g
+      .numbers))
     where
       none : drop k es ≡ []
       none = ap (λ x. drop x es) (sym (entries-long (h .records) (d - k) k)) ∙ drop-length es
@@ -300,7 +307,11 @@ module _ (l : Limits) (h : Hub) (g : Good l h) (real : Real l h) where
           room = λ m. rw (nexts-in, next-same m) (walked .room m);
           each =
               λ i q. subst (λ (x : Decision). Entry l ns x)
-              (sym (entry-at (h .records) (d - k) k i (omega (arith, q, es-long)))) (entry-good i (omega (arith, q, es-long)));
+              (sym (entry-at (h .records) (d - k) k i (omega (arith, q, es-long)))) (entry-good i (omega (
+                arith,
+                q,
+                es-long,
+              )));
         };
     three = omega (arith, ns-long);
     numbers-all = omega (arith, ns-long);
@@ -321,7 +332,8 @@ module _ (l : Limits) (h : Hub) (g : Good l h) (real : Real l h) where
       r = recordAt (h .records) (d - k + i)
 
       held : holds l (h .width) (r .op) ≡ true
-      held = and-both (ltb (r .machine) (h .machines)) (holds l (h .width) (r .op)) (kept-good l h g (d - k + i) (omega (arith, q))) .1
+      held = and-both (ltb (r .machine) (h .machines)) (holds l (h .width) (r .op)) (kept-good l h g (d - k + i)
+          (omega (arith, q))) .1
 
   blank-again : (j : ℕ) → j < mostKept → d ≤ j → emptyRecord l ≡ getD (h .records) j noRecord
   unfolding recordBlank ringGood
@@ -329,7 +341,8 @@ module _ (l : Limits) (h : Hub) (g : Good l h) (real : Real l h) where
       let b = sym (place-past l (h .machines) (h .width) (getD (h .records) j noRecord) d j p) ∙ every-at
       (λ i. placeGood l (h .machines) (h .width) d i (getD (h .records) i noRecord)) mostKept j (g .ring) q in
       let (m, c) = and-both (eqb (getD (h .records) j noRecord .machine) 0) _ b in
-      let (n, o) = and-both (eqb (getD (h .records) j noRecord .number) 0) (blank (getD (h .records) j noRecord .op)) c in
+      let (n, o) = and-both (eqb (getD (h .records) j noRecord .number) 0) (blank (getD (h .records) j noRecord
+      .op)) c in
       same (getD (h .records) j noRecord) (eqb-true _ _ m) (eqb-true _ _ n)
       (empty-again l (getD (h .records) j noRecord .op) o (real .bytes-long j q))
     where
@@ -341,7 +354,8 @@ module _ (l : Limits) (h : Hub) (g : Good l h) (real : Real l h) where
   ring-again : placed l (h .next) (d - k) es (replicate mostKept (emptyRecord l)) ≡ h .records
   ring-again =
       ext-getD noRecord ring (h .records)
-      (placed-long l (h .next) (d - k) es empties ∙ (length-replicate mostKept (emptyRecord l) ∙ sym (real .records-long)))
+      (placed-long l (h .next) (d - k) es empties ∙ (length-replicate mostKept (emptyRecord l) ∙ sym (real
+      .records-long)))
       (λ j q. go j (omega (arith, q, long)) (decLt j d))
     where
       empties : List Record
@@ -359,7 +373,10 @@ module _ (l : Limits) (h : Hub) (g : Good l h) (real : Real l h) where
           let here : j ≡ (d - k + i) % mostKept = omega (arith, q, p) in
           let lt : i < k = omega (arith, q, p) in
           ap (λ x. getD ring x noRecord) here ∙
-          (placed-at l (h .next) (d - k) es empties (length-replicate mostKept (emptyRecord l)) (omega (arith, es-long)) i
+          (placed-at l (h .next) (d - k) es empties (length-replicate mostKept (emptyRecord l)) (omega (
+            arith,
+            es-long,
+          )) i
           (omega (arith, lt, es-long)) ∙
           (record-again i lt ∙ ap (λ x. getD (h .records) x noRecord) (sym here)))
       go j q (no p) =

@@ -103,7 +103,8 @@ module _ (l : Limits) (ns : List ℕ) (es : List Decision) (whole : Whole l ns e
   all-records = omega (arith, records-count)
 
   -- each record in its place
-  pub at : (i : ℕ) → i < length es → recordAt ring (first + i) ≡ entered l next (getD es i noDecision) (drop (suc i) es)
+  pub at : (i : ℕ) → i < length es → recordAt ring (first + i) ≡ entered l next (getD es i noDecision) (drop (suc
+      i) es)
   at =
       placed-at l next first es (replicate mostKept (emptyRecord l)) (length-replicate mostKept (emptyRecord l))
       few-records

@@ -28,7 +28,8 @@ use Rattle.hubtext.proofs.MadeHubs.{nexts-long, cells-long, place-full,
 -- a list with zeros after it
 padded-long : (xs : List ℕ) (n : ℕ) → length xs ≤ n → length (over (length xs) xs (replicate n 0)) ≡ n
 padded-long xs n h =
-    over-length xs (replicate n 0) (length xs) (omega arith) (rw (length-replicate {A = ℕ} n 0) h) ∙ length-replicate {A = ℕ} n 0
+    over-length xs (replicate n 0) (length xs) (omega arith) (rw (length-replicate {A = ℕ} n 0) h) ∙
+    length-replicate {A = ℕ} n 0
 
 bytes-at : (xs : List ℕ) → Bytes xs → (j : ℕ) → getD xs j 0 < 256
 unfolding Bytes

@@ -68,7 +68,8 @@ wants-fine l ns records =
     by-cases Fine (ltb records (keptCount (total (nextsIn ns)))) (λ _. tt) (λ _. tt)
 
 -- what was read, taken apart
-on-number : (l : Limits) (key : List ℕ) (x : Read ℕ) (v : Value) (r : List ℕ) → onNumber l key x ≡ got v r → (n : ℕ) × ((x ≡ got n r) × (v ≡ number key n))
+on-number : (l : Limits) (key : List ℕ) (x : Read ℕ) (v : Value) (r : List ℕ) → onNumber l key x ≡ got v r → (n :
+    ℕ) × ((x ≡ got n r) × (v ≡ number key n))
 on-number l key wrong v r e = never v r e
 on-number l key (got n q) v r e = let a : number key n ≡ v = cc in let b : q ≡ r = cc in (n, (ap (got n) b, sym a))
 
@@ -100,7 +101,8 @@ module _ (l : Limits) (vs : List Value) where
       let fine : Fine (field-line key low top) = subst Fine w (wants-fine l ns (length es)) in
       ap (onWant l ns es (lineOf (number key n) ++ (LF ∷ r))) w ∙
       ap (onNumber l key)
-      (ap (field key low top LF) (sym (number-line key n r)) ∙ field-complete key low top LF n r (omega arith) (fine .1) a b)
+      (ap (field key low top LF) (sym (number-line key n r)) ∙ field-complete key low top LF n r (omega arith)
+      (fine .1) a b)
 
   number-read :
       (key : List ℕ) (low top : ℕ) (t : List ℕ) (v : Value) (r : List ℕ) →

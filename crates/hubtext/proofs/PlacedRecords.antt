@@ -39,7 +39,8 @@ module _ (l : Limits) (next : List ℕ) where
   placed-other n [] rs j h = refl
   placed-other n (e ∷ es) rs j h =
       placed-other (n + 1) es (set rs (n % mostKept) (entered e es)) j
-      (λ i k q. h (suc i) (omega (arith, k)) (let z : n + 1 + i ≡ n + suc i = omega arith in q ∙ ap (λ x. x % mostKept) z)) ∙
+      (λ i k q. h (suc i) (omega (arith, k)) (let z : n + 1 + i ≡ n + suc i = omega arith in q ∙ ap (λ x. x %
+      mostKept) z)) ∙
       getD-set-other rs (n % mostKept) j (entered e es) noRecord
       (λ q. h 0 (omega arith) (let z : n ≡ n + 0 = omega arith in q ∙ ap (λ x. x % mostKept) z))
 
@@ -231,7 +232,8 @@ module _ (l : Limits) (next : List ℕ) where
           go :
               Dec (i ≡ k) →
               recordAt rs (n + i) .number ≡
-              getD next (recordAt rs (n + i) .machine) 0 - suc (countOf (recordAt rs (n + i) .machine) (drop (suc i) es))
+              getD next (recordAt rs (n + i) .machine) 0 - suc (countOf (recordAt rs (n + i) .machine) (drop (suc
+              i) es))
           go (yes p) =
               subst
               (λ (y : ℕ). recordAt rs (n + y) .number ≡

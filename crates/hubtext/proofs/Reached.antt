@@ -40,7 +40,8 @@ module _ (l : Limits) where
       Sofar l (numbersOf (vs ++ (entry e ∷ []))) (entriesOf (vs ++ (entry e ∷ [])))
   after-entry vs e s = rw (numbers-entry vs e, entries-entry vs e) s
 
-  module _ (vs : List Value) (s : Sofar l (numbersOf vs) (entriesOf vs)) (v : Value) (reads : Reads (hubForm l) vs v) where
+  module _ (vs : List Value) (s : Sofar l (numbersOf vs) (entriesOf vs)) (v : Value) (reads : Reads (hubForm l) vs
+      v) where
     abbrev ns : List ℕ
     ns = numbersOf vs
 
@@ -108,7 +109,8 @@ module _ (l : Limits) where
             })
         go (at-record k b d w) =
             let (e, (is, (m, (bytes, fit)))) = entry-value l vs _ v [] w (reads []) in
-            let (a, f) = and-both (ltb (countOf (e .machine) (entriesOf vs)) (getD (nextsIn ns) (e .machine) 0)) (wellFormed l (widthIn ns) (e .op)) fit in
+            let (a, f) = and-both (ltb (countOf (e .machine) (entriesOf vs)) (getD (nextsIn ns) (e .machine) 0))
+            (wellFormed l (widthIn ns) (e .op)) fit in
             let range = s .machines-in (omega (arith, k)) in
             subst (λ (x : Value). Sofar l (numbersOf (vs ++ (x ∷ []))) (entriesOf (vs ++ (x ∷ [])))) (sym is)
             (after-entry vs e

@@ -35,7 +35,8 @@ pub stage : (l : Limits) (ns : List ℕ) (j : ℕ) → Stage l ns j
 unfolding want
 stage l ns j = first (eqb (length ns) 0) refl
   where
-    sixth : (h : 3 ≤ length ns) → 3 + widthIn ns + machinesIn ns ≤ length ns → (b : Bool) → ltb j (keptCount (total (nextsIn ns))) ≡ b → Stage l ns j
+    sixth : (h : 3 ≤ length ns) → 3 + widthIn ns + machinesIn ns ≤ length ns → (b : Bool) → ltb j (keptCount (total
+        (nextsIn ns))) ≡ b → Stage l ns j
     sixth h k true e =
         at-record h k (ltb-true j (keptCount (total (nextsIn ns))) e)
         (simp (
@@ -57,7 +58,8 @@ stage l ns j = first (eqb (length ns) 0) refl
           e,
         ))
 
-    fifth : (h : 3 ≤ length ns) → 3 + widthIn ns ≤ length ns → (b : Bool) → ltb (length ns) (3 + widthIn ns + machinesIn ns) ≡ b → Stage l ns j
+    fifth : (h : 3 ≤ length ns) → 3 + widthIn ns ≤ length ns → (b : Bool) → ltb (length ns) (3 + widthIn ns +
+        machinesIn ns) ≡ b → Stage l ns j
     fifth h k true e =
         at-next h k (ltb-true (length ns) (3 + widthIn ns + machinesIn ns) e)
         (simp (
@@ -68,7 +70,8 @@ stage l ns j = first (eqb (length ns) 0) refl
           e,
         ))
     fifth h k false e =
-        sixth h (ltb-false (length ns) (3 + widthIn ns + machinesIn ns) e) (ltb j (keptCount (total (nextsIn ns)))) refl
+        sixth h (ltb-false (length ns) (3 + widthIn ns + machinesIn ns) e) (ltb j (keptCount (total (nextsIn ns))))
+        refl
 
     fourth : (h : 3 ≤ length ns) → (b : Bool) → ltb (length ns) (3 + widthIn ns) ≡ b → Stage l ns j
     fourth h true e =

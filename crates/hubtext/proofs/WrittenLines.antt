@@ -37,7 +37,8 @@ module _ (l : Limits) where
   entry-text e = entry-line e [] ∙ sym (text-one (hubForm l) (entry e))
 
   -- no line yet, and one more
-  pub numbers-none : (b : List ℕ) (a : ℕ) (key xs : List ℕ) → Puts b b a a (textOf (hubForm l) (map (number key) (take 0 xs)))
+  pub numbers-none : (b : List ℕ) (a : ℕ) (key xs : List ℕ) → Puts b b a a (textOf (hubForm l) (map (number key)
+      (take 0 xs)))
   numbers-none b a key xs = subst (λ (z : List ℕ). Puts b b a a z) (sym (text-empty (hubForm l))) (puts-none b a)
 
   pub numbers-next :
@@ -82,7 +83,8 @@ module _ (l : Limits) where
   entries-more records n zero = let z : n + 0 ≡ n = omega arith in rw z
   entries-more records n (suc i) =
       let z : n + 1 + i ≡ n + suc i = omega arith in
-      ap (λ x. entryOf (recordAt records n) ∷ x) (subst (λ (k : ℕ). entriesFrom records (n + 1) (suc i) ≡ entriesFrom records (n + 1) i ++ (entryOf (recordAt records k) ∷ [])) z (entries-more records (n + 1) i))
+      ap (λ x. entryOf (recordAt records n) ∷ x) (subst (λ (k : ℕ). entriesFrom records (n + 1) (suc i) ≡
+      entriesFrom records (n + 1) i ++ (entryOf (recordAt records k) ∷ [])) z (entries-more records (n + 1) i))
 
   pub entries-none :
       (b : List ℕ) (a : ℕ) (records : List Record) (n : ℕ) →
@@ -91,7 +93,8 @@ module _ (l : Limits) where
   entries-none b a records n = subst (λ (z : List ℕ). Puts b b a a z) (sym (text-empty (hubForm l))) (puts-none b a)
 
   pub entries-next :
-      (b0 b1 b2 : List ℕ) (a0 a1 a2 : ℕ) (records : List Record) (n i : ℕ) (r : Record) → r ≡ recordAt records (n + i) →
+      (b0 b1 b2 : List ℕ) (a0 a1 a2 : ℕ) (records : List Record) (n i : ℕ) (r : Record) → r ≡ recordAt records (n +
+      i) →
       Puts b0 b1 a0 a1 (textOf (hubForm l) (map entry (entriesFrom records n i))) →
       Puts b1 b2 a1 a2 (textOf (hubForm l) (entry (entryOf r) ∷ [])) →
       Puts b0 b2 a0 a2 (textOf (hubForm l) (map entry (entriesFrom records n (i + 1))))
@@ -150,7 +153,8 @@ module _ (l : Limits) where
 
       split :
           textOf (hubForm l) (head ++ (cells ++ (nexts ++ kept))) ≡
-          textOf (hubForm l) head ++ (textOf (hubForm l) cells ++ (textOf (hubForm l) nexts ++ textOf (hubForm l) kept))
+          textOf (hubForm l) head ++ (textOf (hubForm l) cells ++ (textOf (hubForm l) nexts ++ textOf (hubForm l)
+          kept))
       split =
           text-append (hubForm l) head (cells ++ (nexts ++ kept)) ∙
           ap (λ x. textOf (hubForm l) head ++ x)

@@ -33,4 +33,5 @@ writeOf l h room =
 -- the lent buffer after it: the text from its start where nothing is refused; bytes after the text are unchanged
 unfoldable pub writtenInto : Limits → Hub → List ℕ → List ℕ
 writtenInto l h buf =
-    if shaped l h && leb (length (hubText l h)) (length buf) then over (length (hubText l h)) (hubText l h) buf else buf
+    if shaped l h && leb (length (hubText l h)) (length buf) then over (length (hubText l h)) (hubText l h) buf
+    else buf

@@ -33,7 +33,8 @@ decimal-digit d h = rw (lt-ltb d 10 h)
 pub decimal-more : (n : ℕ) → 10 ≤ n → decimal n ≡ decimal (n / 10) ++ ((48 + n % 10) ∷ [])
 unfolding decimal digitsIn
 decimal-more n h =
-    rw (le-ltb n 10 h) (ap (λ (l : List ℕ). l ++ ((48 + n % 10) ∷ [])) (enough n (suc (n / 10)) (n / 10) (omega arith) (omega arith)))
+    rw (le-ltb n 10 h) (ap (λ (l : List ℕ). l ++ ((48 + n % 10) ∷ [])) (enough n (suc (n / 10)) (n / 10) (omega
+    arith) (omega arith)))
 
 pub decimal-step : (v d : ℕ) → 0 < v → d < 10 → decimal (v * 10 + d) ≡ decimal v ++ ((48 + d) ∷ [])
 decimal-step v d p q =
@@ -51,7 +52,8 @@ unfolding digitsIn NoLF
 noLF-digits zero n = tt
 noLF-digits (suc k) n = go (noLF-digits k (n / 10)) (ltb n 10) refl
   where
-    go : NoLF (digitsIn k (n / 10)) → (b : Bool) → ltb n 10 ≡ b → NoLF ((if ltb n 10 then (48 + n) ∷ [] else digitsIn k (n / 10) ++ ((48 + n % 10) ∷ [])))
+    go : NoLF (digitsIn k (n / 10)) → (b : Bool) → ltb n 10 ≡ b → NoLF ((if ltb n 10 then (48 + n) ∷ [] else
+        digitsIn k (n / 10) ++ ((48 + n % 10) ∷ [])))
     go ih true e = rw e ((omega arith), tt)
     go ih false e = rw e (noLF-append (digitsIn k (n / 10)) ((48 + n % 10) ∷ []) ih ((omega arith), tt))
 
@@ -64,7 +66,8 @@ pub decimal-short : (k n : ℕ) → n < 10 ^ suc k → length (decimal n) ≤ su
 decimal-short zero n h = rw (decimal-digit n h) (omega arith)
 decimal-short (suc k) n h = go (λ l. decimal-short k (n / 10) l) (ltb n 10) refl
   where
-    go : (n / 10 < 10 ^ suc k → length (decimal (n / 10)) ≤ suc k) → (b : Bool) → ltb n 10 ≡ b → length (decimal n) ≤ suc (suc k)
+    go : (n / 10 < 10 ^ suc k → length (decimal (n / 10)) ≤ suc k) → (b : Bool) → ltb n 10 ≡ b → length (decimal n)
+        ≤ suc (suc k)
     go ih true e = rw (decimal-digit n (ltb-true n 10 e)) (omega arith)
     go ih false e =
         let i = ih (omega arith) in

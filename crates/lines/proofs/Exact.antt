@@ -169,7 +169,8 @@ module _ {A : Type 0} (f : Form A) (laws : Lawful f) where
             (
               also v d (line .again) (g .1 .0),
               subst (λ (x : List ℕ). SameLines (suc k) t x) (text-more v (g .0))
-                  (subst (λ (x : List ℕ). SameLines (suc k) x (f .line v ++ (LF ∷ textOf f (g .0)))) (sym (line .text))
+                  (subst (λ (x : List ℕ). SameLines (suc k) x (f .line v ++ (LF ∷ textOf f (g .0)))) (sym (line
+                  .text))
                   (grow k (f .line v) r (textOf f (g .0)) (line .no-lf) (g .1 .1))),
             ),
           )

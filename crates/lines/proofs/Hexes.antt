@@ -128,7 +128,8 @@ and-byte b (got cs q) bs r e =
     (cs, (ap (got cs) qr, sym bb))
 
 -- a line that ends at once
-ended : (k a : ℕ) (t bs r : List ℕ) → eqb a LF ≡ true → _≡_ {A = Read (List ℕ)} (got [] t) (got bs r) → HexText k (a ∷ t) bs r
+ended : (k a : ℕ) (t bs r : List ℕ) → eqb a LF ≡ true → _≡_ {A = Read (List ℕ)} (got [] t) (got bs r) → HexText k
+    (a ∷ t) bs r
 unfolding hexOf Bytes
 ended k a t bs r p g =
     let n : [] ≡ bs = cc in

@@ -42,7 +42,17 @@ byte-in before at v lt b t h = record {
         let front : take at t ≡ t = take-all at t (omega (arith, here)) in
         let whole : take (at + 1) (t ++ (v ∷ [])) ≡ t ++ (v ∷ []) =
         take-all (at + 1) (t ++ (v ∷ [])) (rw (length-append t (v ∷ [])) (omega (arith, here))) in
-        rw (front, whole, append-assoc t (v ∷ []) (drop (at + 1) b), add-one, drop-cons b at 0 (omega (arith, h .size)))
+        rw (
+          front,
+          whole,
+          append-assoc t (v ∷ []) (drop (at + 1) b),
+          add-one,
+          drop-cons b at 0 (omega (
+            arith,
+            h
+                .size,
+          )),
+        )
         (set-at t (getD b at 0) (drop (suc at) b) v at here)
 
 pub byte-out : (before : List ℕ) (at v : ℕ) → length before ≤ at → Puts before before at (at + 1) (v ∷ [])

@@ -24,7 +24,8 @@ unfoldable pub digits : ℕ → ℕ → ℕ → List ℕ → Read ℕ
 digits top end v [] = wrong
 digits top end v (b ∷ t) =
     if eqb b end then got v t
-    else if leb 48 b && (leb b 57 && (ltb 0 v && leb (v * 10 + (b - 48)) top)) then digits top end (v * 10 + (b - 48)) t
+    else if leb 48 b && (leb b 57 && (ltb 0 v && leb (v * 10 + (b - 48)) top))
+    then digits top end (v * 10 + (b - 48)) t
     else wrong
 
 -- a number from low (0 or 1) to top, and its end

@@ -43,7 +43,8 @@ module _ (l : Limits) (m : Machine) (j : ℕ) (buf : List ℕ) where
     pub is-asked :
         (len : ℕ) (after : List ℕ) → l .bytes ≤ length buf → len ≡ waitingAt m j .len →
         after ≡ over len (waitingAt m j .bytes) buf →
-        (record { answer = Done; number = m .done + j; len = len } ≡ askKnown l m j (length buf)) × (after ≡ askedKnown l m j buf)
+        (record { answer = Done; number = m .done + j; len = len } ≡ askKnown l m j (length buf)) × (after ≡
+        askedKnown l m j buf)
     unfolding askKnown askedKnown
     is-asked len after h e f = (
       rw e (simp (lt-leb (m .waiting) j a, le-ltb (length buf) (l .bytes) h)),

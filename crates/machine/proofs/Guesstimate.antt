@@ -80,7 +80,8 @@ module _ (l : Limits) (C : List (Shared Cells Local)) (m : Machine) where
   -- where the guard of R2 holds
   pub issue-is-R2 :
       (op guess : List ℕ) → m .waiting < length (m .queue) → outcome l (m .width) op (m .guess) ≡ some guess →
-      (shared l (m .width) op (m .guess) ≡ (guess, true)) × (view l C (sold l m op guess .machine) ≡ R2 Cells Local (sale l (m .width) op) (view l C m))
+      (shared l (m .width) op (m .guess) ≡ (guess, true)) × (view l C (sold l m op guess .machine) ≡ R2 Cells Local
+      (sale l (m .width) op) (view l C m))
   unfolding sold
   issue-is-R2 op guess h e = (rw e, go (outcome l (m .width) op (m .guess)) e)
     where

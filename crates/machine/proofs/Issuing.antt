@@ -38,7 +38,8 @@ module _ (l : Limits) (m : Machine) (op : List ℕ) where
     unfolding issueKnown
     known-all h = simp (lt-leb mostQueued (m .waiting) a, le-leb mostIssued (m .issued) h)
 
-    module _ (b : m .issued < mostIssued) (q : Came) (ran : q ≡ came (m .guess) (outcome l (m .width) op (m .guess))) where
+    module _ (b : m .issued < mostIssued) (q : Came) (ran : q ≡ came (m .guess) (outcome l (m .width) op (m
+        .guess))) where
       pub known-fails : q .ok ≡ false → notIssued FailsOnGuess m ≡ issueKnown l m op
       unfolding issueKnown
       known-fails h =

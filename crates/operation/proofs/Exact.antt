@@ -84,7 +84,8 @@ amount-back amount = omega arith
 
 -- the bytes of each kind, whatever follows them, are of that kind
 module _ (l : Limits) (width : ℕ) where
-  module _ (code cell amount : ℕ) (rest : List ℕ) (below : cell < width) (least : 1 ≤ amount) (most : amount ≤ l .amount) where
+  module _ (code cell amount : ℕ) (rest : List ℕ) (below : cell < width) (least : 1 ≤ amount) (most : amount ≤ l
+      .amount) where
     fields-back : Of cell amount ≡ fieldsAt l width (code ∷ cell ∷ (amountBytes amount ++ rest)) 1
     fields-back =
         fields-of l width (code ∷ cell ∷ (amountBytes amount ++ rest)) 1 (omega arith) below amount

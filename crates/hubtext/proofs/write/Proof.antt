@@ -24,10 +24,12 @@ text-requires c κs = sym (c .before .before .shaped .ensures) ∙ not-false _ (
 
 returns-2 : tie.Need-returns-2
 returns-2 c = let n = laid-all _ _ _ _ (c .before .before .text .ensures) .count in
-    write-short limits _ _ (sym (c .before .before .before .before .before .shaped .ensures) ∙ not-false _ (c .before .before .before .before .if1 .left)) _ n (omega arith)
+    write-short limits _ _ (sym (c .before .before .before .before .before .shaped .ensures) ∙ not-false _ (c
+    .before .before .before .before .if1 .left)) _ n (omega arith)
 
 text-requires-2 : tie.Need-text-requires-2
-text-requires-2 c κs = sym (c .before .before .before .before .before .before .shaped .ensures) ∙ not-false _ (c .before .before .before .before .before .if1 .left)
+text-requires-2 c κs = sym (c .before .before .before .before .before .before .shaped .ensures) ∙ not-false _ (c
+    .before .before .before .before .before .if1 .left)
 
 same-length : tie.Need-same-length
 same-length c = search needs
@@ -36,8 +38,11 @@ returns-3 : tie.Need-returns-3
 returns-3 c = let s = c .before .before .before .before .before .before .before .before .before .before .before in
     let n = laid-all _ _ _ _ (c .before .before .before .before .before .before .text .ensures) .count in
     let w = laid-all _ _ _ _ (c .before .before .text2 .ensures) in
-    write-done limits (s .args .h) (s .args .buf .now) (sym (c .before .before .before .before .before .before .before .before .before .shaped .ensures) ∙ not-false _ (c .before .before .before .before .before .before .before .before .if1 .left)) _ n _ (omega arith)
-    (w .text (omega (arith, n, w .count)) ∙ ap (λ x. over x (hubText limits (s .args .h)) (s .args .buf .now)) (w .count))
+    write-done limits (s .args .h) (s .args .buf .now) (sym (c .before .before .before .before .before .before
+    .before .before .before .shaped .ensures) ∙ not-false _ (c .before .before .before .before .before .before
+    .before .before .if1 .left)) _ n _ (omega arith)
+    (w .text (omega (arith, n, w .count)) ∙ ap (λ x. over x (hubText limits (s .args .h)) (s .args .buf .now)) (w
+    .count))
 
 pub write-spec : {M : Type 1} → statement M
 write-spec =

@@ -45,7 +45,8 @@ unfolding goOn StepKept
 returns-4 c = let s = c .before .before in
     let p = s .pre .kept in
     let r = p .range in (
-      λ t. more-zero _ _ _ _ _ t (omega arith) (λ e. omega (arith, e, r .end-most, s .pre .least)) (omega arith) (omega arith) (omega arith),
+      λ t. more-zero _ _ _ _ _ t (omega arith) (λ e. omega (arith, e, r .end-most, s .pre .least)) (omega arith)
+          (omega arith) (omega arith),
       tt,
     )
 
@@ -63,7 +64,8 @@ unfolding goOn StepKept
 returns-5 c = let s = c .before .before .before .before in
     let p = s .pre .kept in
     let r = p .range in (
-      λ t. more-over _ _ _ _ _ t (omega arith) (λ e. omega (arith, e, r .end-most, s .pre .least)) (omega arith) (omega arith)
+      λ t. more-over _ _ _ _ _ t (omega arith) (λ e. omega (arith, e, r .end-most, s .pre .least)) (omega arith)
+          (omega arith)
           (omega arith) (omega arith),
       tt,
     )
@@ -73,7 +75,8 @@ unfolding goOn StepKept
 returns-6 c = let s = c .before .before .before .before in
     let p = s .pre .kept in
     let r = p .range in (
-      λ t. more-on _ _ _ _ _ t (omega arith) (λ e. omega (arith, e, r .end-most, s .pre .least)) (omega arith) (omega arith)
+      λ t. more-on _ _ _ _ _ t (omega arith) (λ e. omega (arith, e, r .end-most, s .pre .least)) (omega arith)
+          (omega arith)
           (omega arith) (omega arith),
       record { range = r; far = omega arith; most = omega arith },
     )

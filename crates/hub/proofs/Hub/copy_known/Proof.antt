@@ -30,13 +30,16 @@ lay-cells-requires c κs = let s = c .before .before .before .before .before .be
     (omega arith, omega arith)
 
 total-requires : tie.Need-total-requires
-total-requires c κs = let s = c .before .before .before .before .before .before .before .before .before .before in good limits (s .args .self) (s .pre) .next
+total-requires c κs = let s = c .before .before .before .before .before .before .before .before .before .before in
+    good limits (s .args .self) (s .pre) .next
 
 mul-t8 : tie.Need-mul-t8
-mul-t8 c = let s = c .before .before .before .before .before .before .before .before .before .before .before in omega (arith, good limits (s .args .self) (s .pre) .sizes .machines-most)
+mul-t8 c = let s = c .before .before .before .before .before .before .before .before .before .before .before in
+    omega (arith, good limits (s .args .self) (s .pre) .sizes .machines-most)
 
 array-read-t18 : tie.Need-array-read-t18
-array-read-t18 c = let s = c .before .before .before .before .before .before .before .before .before .before .before in
+array-read-t18 c = let s = c .before .before .before .before .before .before .before .before .before .before
+    .before in
     let n = field-long (s .args .self .next) _ _ (s .good .0 .1 .1 .1 .1 .1 .0 .1 .0 .1) in
     omega (arith, n, good limits (s .args .self) (s .pre) .sizes .machines-most)
 

@@ -41,7 +41,8 @@ not-fetched-requires-3 c κs = search needs
 returns-3 : tie.Need-returns-3
 returns-3 c = let s = c .before .before .before .before .before .before .before in
     let t = c .before .before .before .before .total .ensures .0 in
-    let e = too-short limits (s .args .t1) (s .args .n) (s .args .buf .now) (omega arith) (omega arith) (omega arith) in
+    let e = too-short limits (s .args .t1) (s .args .n) (s .args .buf .now) (omega arith) (omega arith) (omega
+    arith) in
     (c .not-fetched3 .ensures ∙ e .0, e .1)
 
 slot-requires : tie.Need-slot-requires
@@ -57,9 +58,11 @@ index-requires : tie.Need-index-requires
 index-requires c κs = search needs
 
 lay-requires : tie.Need-lay-requires
-lay-requires c κs = let s = c .before .before .before .before .before .before .before .before .before .before .before .before in
+lay-requires c κs = let s = c .before .before .before .before .before .before .before .before .before .before
+    .before .before in
     let t = c .before .before .before .before .before .before .before .before .before .total .ensures .0 in
-    let q = ap (λ x. getD (s .args .t1 .records) x noRecord) (c .before .before .before .before .before .slot .ensures) in
+    let q = ap (λ x. getD (s .args .t1 .records) x noRecord) (c .before .before .before .before .before .slot
+    .ensures) in
     let f = kept-short limits (s .args .t1) (good limits (s .args .t1) (s .pre)) (s .args .n) _ (omega arith) q in
     (omega arith, omega arith)
 
@@ -70,11 +73,16 @@ same-length : tie.Need-same-length
 same-length c = search needs
 
 returns-4 : tie.Need-returns-4
-returns-4 c = let s = c .before .before .before .before .before .before .before .before .before .before .before .before .before .before .before .before in
-    let t = c .before .before .before .before .before .before .before .before .before .before .before .before .before .total .ensures .0 in
-    let q = ap (λ x. getD (s .args .t1 .records) x noRecord) (c .before .before .before .before .before .before .before .before .before .slot .ensures) in
-    is-fetched limits (s .args .t1) (s .args .n) (s .args .buf .now) (omega arith) (omega arith) _ _ _ _ q (omega arith)
-    (c .index2 .ensures) (c .before .before .before .before .before .index .ensures) (c .before .before .before .lay .ensures)
+returns-4 c = let s = c .before .before .before .before .before .before .before .before .before .before .before
+    .before .before .before .before .before in
+    let t = c .before .before .before .before .before .before .before .before .before .before .before .before
+    .before .total .ensures .0 in
+    let q = ap (λ x. getD (s .args .t1 .records) x noRecord) (c .before .before .before .before .before .before
+    .before .before .before .slot .ensures) in
+    is-fetched limits (s .args .t1) (s .args .n) (s .args .buf .now) (omega arith) (omega arith) _ _ _ _ q (omega
+    arith)
+    (c .index2 .ensures) (c .before .before .before .before .before .index .ensures) (c .before .before .before
+    .lay .ensures)
 
 pub fetch-known-spec : {M : Type 1} → statement M
 fetch-known-spec =

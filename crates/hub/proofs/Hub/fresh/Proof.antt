@@ -41,7 +41,8 @@ start-requires c κs = search needs
 returns-3 : tie.Need-returns-3
 returns-3 c =
     good-start limits _ _
-    (sym (c .before .before .before .before .before .sizes .ensures) ∙ not-false _ (c .before .before .before .before .if1 .left))
+    (sym (c .before .before .before .before .before .sizes .ensures) ∙ not-false _ (c .before .before .before
+    .before .if1 .left))
     _ (sym (c .before .before .before .are-counts .ensures) ∙ not-false _ (c .before .before .if2 .left))
     (rw (c .before .cells-of .ensures) at (c .start .ensures))
 

@@ -54,7 +54,8 @@ returns-4 c =
       sym (k1 .before .sizes .ensures) ∙ not-false _ (k1 .if1 .left),
       sym (k2 .before .cells2 .ensures) ∙ not-false _ (k2 .if2 .left),
       sym (k3 .before .next2 .ensures) ∙ not-false _ (k3 .if3 .left),
-      rw (c .before .before .before .total .ensures .0) at (sym (c .before .ring .ensures) ∙ not-true _ (c .if4 .taken)),
+      rw (c .before .before .before .total .ensures .0) at (sym (c .before .ring .ensures) ∙ not-true _ (c .if4
+          .taken)),
     )
 
 numbers-requires : tie.Need-numbers-requires
@@ -71,7 +72,8 @@ returns-5 c =
       sym (k1 .before .sizes .ensures) ∙ not-false _ (k1 .if1 .left),
       sym (k2 .before .cells2 .ensures) ∙ not-false _ (k2 .if2 .left),
       sym (k3 .before .next2 .ensures) ∙ not-false _ (k3 .if3 .left),
-      rw (k4 .before .before .before .total .ensures .0) at (sym (k4 .before .ring .ensures) ∙ not-false _ (k4 .if4 .left)),
+      rw (k4 .before .before .before .total .ensures .0) at (sym (k4 .before .ring .ensures) ∙ not-false _ (k4 .if4
+          .left)),
     )
     (c .numbers .ensures)
 

@@ -23,7 +23,8 @@ not-submitted-requires-2 c κs = search needs
 
 returns-2 : tie.Need-returns-2
 returns-2 c = c .not-submitted2 .ensures ∙ no-machine limits _ _ _ _
-    (sym (c .before .before .before .before .shaped .ensures) ∙ not-false _ (c .before .before .before .if1 .left)) (omega arith)
+    (sym (c .before .before .before .before .shaped .ensures) ∙ not-false _ (c .before .before .before .if1 .left))
+    (omega arith)
 
 not-submitted-requires-3 : tie.Need-not-submitted-requires-3
 not-submitted-requires-3 c κs = search needs
@@ -31,7 +32,8 @@ not-submitted-requires-3 c κs = search needs
 returns-3 : tie.Need-returns-3
 returns-3 c =
     c .not-submitted3 .ensures ∙ no-number limits _ _ _ _
-    (sym (c .before .before .before .before .before .shaped .ensures) ∙ not-false _ (c .before .before .before .before .if1 .left)) (omega arith)
+    (sym (c .before .before .before .before .before .shaped .ensures) ∙ not-false _ (c .before .before .before
+    .before .if1 .left)) (omega arith)
     (omega arith)
 
 well-formed-requires : tie.Need-well-formed-requires
@@ -43,19 +45,22 @@ not-submitted-requires-4 c κs = search needs
 returns-4 : tie.Need-returns-4
 returns-4 c =
     c .not-submitted4 .ensures ∙ submit-malformed limits _ _ _ _
-    (sym (c .before .before .before .before .before .before .before .shaped .ensures) ∙ not-false _ (c .before .before .before .before .before .before .if1 .left))
+    (sym (c .before .before .before .before .before .before .before .shaped .ensures) ∙ not-false _ (c .before
+    .before .before .before .before .before .if1 .left))
     (omega arith) (omega arith) (sym (c .before .before .well-formed .ensures) ∙ not-true _ (c .before .if4 .taken))
 
 submit-known-requires : tie.Need-submit-known-requires
 submit-known-requires c κs = (
-  sym (c .before .before .before .before .before .before .shaped .ensures) ∙ not-false _ (c .before .before .before .before .before .if1 .left),
+  sym (c .before .before .before .before .before .before .shaped .ensures) ∙ not-false _ (c .before .before .before
+      .before .before .if1 .left),
   (omega arith, (omega arith, sym (c .before .well-formed .ensures) ∙ not-false _ (c .if4 .left))),
 )
 
 returns-5 : tie.Need-returns-5
 returns-5 c =
     c .submit-known .ensures .0 ∙ submit-known limits _ _ _ _
-    (sym (c .before .before .before .before .before .before .before .shaped .ensures) ∙ not-false _ (c .before .before .before .before .before .before .if1 .left))
+    (sym (c .before .before .before .before .before .before .before .shaped .ensures) ∙ not-false _ (c .before
+    .before .before .before .before .before .if1 .left))
     (omega arith) (omega arith) (sym (c .before .before .well-formed .ensures) ∙ not-false _ (c .before .if4 .left))
 
 pub submit-spec : {M : Type 1} → statement M

@@ -23,7 +23,14 @@ kept-requires : tie.Need-kept-requires Inv-loop μ-loop
 kept-requires c κs = search needs
 
 loop-holds : tie.Need-loop-holds Inv-loop μ-loop
-loop-holds c = (omega arith, (c .before .good .0 .1 .0 .1, numbered-start _ _ _ _ (c .before .pre) (c .kept .ensures)))
+loop-holds c = (
+  omega arith,
+  (
+    c .before .good .0 .1 .0 .1,
+    numbered-start _ _ _ _ (c .before .pre) (c .kept
+        .ensures),
+  ),
+)
 
 sub-n : tie.Need-sub-n Inv-loop μ-loop
 sub-n c = search needs
@@ -103,8 +110,10 @@ loop-again c = let l = c .before .before .before .before .before .before .before
       omega arith,
       (
         search needs,
-        numbered-more _ _ _ _ r _ (omega arith) (ap (λ x. getD (a .before .before .args .t2) x noRecord) (s .slot .ensures))
-            (i .index .ensures) (follows-so (a .loop .left) r _ (i .index .ensures) (omega arith)) ∙ a .loop .inv .1 .1,
+        numbered-more _ _ _ _ r _ (omega arith) (ap (λ x. getD (a .before .before .args .t2) x noRecord) (s .slot
+            .ensures))
+            (i .index .ensures) (follows-so (a .loop .left) r _ (i .index .ensures) (omega arith)) ∙ a .loop .inv
+            .1 .1,
       ),
     )
 

@@ -22,7 +22,11 @@ abbrev μ-loop : tie.MeasureT-loop
 μ-loop machines width decided records i₀ i = 256 - i
 
 loop-holds : tie.Need-loop-holds Inv-loop μ-loop
-loop-holds c = let a = c .args in (search needs, every-none (λ j. placeGood limits (a .machines) (a .width) (a .decided) j (getD (a .t1) j noRecord)))
+loop-holds c = let a = c .args in (
+  search needs,
+  every-none (λ j. placeGood limits (a .machines) (a .width) (a
+      .decided) j (getD (a .t1) j noRecord)),
+)
 
 mul-place : tie.Need-mul-place Inv-loop μ-loop
 mul-place c = search needs
@@ -51,7 +55,8 @@ loop-again : tie.Need-loop-again Inv-loop μ-loop
 loop-again c = let a = c .before .before .before .before .before .args in (
   search needs,
   every-more (λ j. placeGood limits (a .machines) (a .width) (a .decided) j (getD (a .t1) j noRecord))
-      (c .before .before .before .before .loop .i) (c .before .before .before .before .loop .inv .1) (sym (c .before .place .ensures) ∙ not-false _ (c .if1 .left)),
+      (c .before .before .before .before .loop .i) (c .before .before .before .before .loop .inv .1) (sym (c
+      .before .place .ensures) ∙ not-false _ (c .if1 .left)),
 )
 
 returns-2 : tie.Need-returns-2 Inv-loop μ-loop

@@ -58,7 +58,8 @@ loop-again c = let l = c .before .before .before .before .before .before .before
           omega (arith, w .0),
           (
             search needs,
-            numbers-next limits _ _ _ _ _ _ cell= (s .args .t3) (l .loop .i) _ (omega arith) (c .before .before .before .wide .ensures) (l .loop .inv .1 .1 .1 .1) (w .1),
+            numbers-next limits _ _ _ _ _ _ cell= (s .args .t3) (l .loop .i) _ (omega arith) (c .before .before
+                .before .wide .ensures) (l .loop .inv .1 .1 .1 .1) (w .1),
           ),
         ),
       ),

@@ -27,7 +27,8 @@ same-length : tie.Need-same-length
 same-length c = search needs
 
 returns : tie.Need-returns
-returns c = let x = c .before .before .before .before .before .before .before .before .before .before .before .before .field .ensures in
+returns c = let x = c .before .before .before .before .before .before .before .before .before .before .before
+    .before .field .ensures in
     let y = c .before .before .before .before .before .before .before .field2 .ensures in
     let z = c .before .before .field3 .ensures in
     (omega (arith, x .0, y .0, z .0), head-lines limits _ _ _ _ _ _ _ _ _ _ (x .1) (y .1) (z .1))

@@ -55,7 +55,8 @@ loop-again c = let l = c .before .before .before .before .before .before in
           omega (arith, w .0),
           (
             search needs,
-            numbers-next limits _ _ _ _ _ _ next= (s .args .t3) (l .loop .i) _ (omega arith) (refl) (l .loop .inv .1 .1 .1 .1) (w .1),
+            numbers-next limits _ _ _ _ _ _ next= (s .args .t3) (l .loop .i) _ (omega arith) (refl) (l .loop .inv
+                .1 .1 .1 .1) (w .1),
           ),
         ),
       ),

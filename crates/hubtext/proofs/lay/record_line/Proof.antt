@@ -27,11 +27,20 @@ same-length : tie.Need-same-length
 same-length c = search needs
 
 returns : tie.Need-returns
-returns c = let x = c .before .before .before .before .before .before .before .before .before .before .before .before .before .field .ensures in
+returns c = let x = c .before .before .before .before .before .before .before .before .before .before .before
+    .before .before .field .ensures in
     let n = c .before .before .before .before .before .before .before .index .ensures in
     let y = c .before .before .before .before .before .before .operation .ensures in
     let z = c .before .before .byte .ensures in (
-      omega (arith, x .0, n, y .0, z .0, c .before .before .before .before .before .before .before .before .before .before .before .before .before .before .before .before .before .before .pre .1),
+      omega (
+        arith,
+        x .0,
+        n,
+        y .0,
+        z .0,
+        c .before .before .before .before .before .before .before .before .before
+            .before .before .before .before .before .before .before .before .before .pre .1,
+      ),
       record-line limits _ _ _ _ _ _ _ _ _ (x .1) (rw n at (y .1)) (z .1),
     )
 

@@ -26,8 +26,20 @@ abbrev μ-loop : tie.MeasureT-loop
 μ-loop buf₀ at first k records to₀ i₀ buf to i = k - i
 
 loop-holds : tie.Need-loop-holds Inv-loop μ-loop
-loop-holds c = let s = c .before in
-    (search needs, (s .good .1 .1 .0 .1 .0 .1, (omega arith, (refl, entries-none limits _ _ (s .args .t3) (s .args .first)))))
+loop-holds c = let s = c .before in (
+  search needs,
+  (
+    s .good .1 .1 .0 .1 .0 .1,
+    (
+      omega arith,
+      (
+        refl,
+        entries-none limits _ _ (s .args .t3) (s .args
+            .first),
+      ),
+    ),
+  ),
+)
 
 add-slot : tie.Need-add-slot Inv-loop μ-loop
 add-slot c = search needs
@@ -67,7 +79,8 @@ loop-again c = let l = c .before .before .before .before .before .before .before
           (
             search needs,
             entries-next limits _ _ _ _ _ _ (s .args .t3) (s .args .first) (l .loop .i) _
-                (ap (λ x. getD (s .args .t3) x noRecord) (c .before .before .before .before .before .slot .ensures)) (l .loop .inv .1 .1 .1 .1) (w .1),
+                (ap (λ x. getD (s .args .t3) x noRecord) (c .before .before .before .before .before .slot
+                .ensures)) (l .loop .inv .1 .1 .1 .1) (w .1),
           ),
         ),
       ),

@@ -50,7 +50,8 @@ loop-less c = search needs
 
 loop-again : tie.Need-loop-again Inv-loop μ-loop
 loop-again c =
-    goes-on _ _ _ _ _ _ _ (c .before .before .before .before .before .before .loop .inv) (omega arith) _ (c .before .before .before .take-byte .ensures .0) _ _
+    goes-on _ _ _ _ _ _ _ (c .before .before .before .before .before .before .loop .inv) (omega arith) _ (c .before
+    .before .before .take-byte .ensures .0) _ _
     (c .before .step .given .1) (c .before .before .before .take-byte .ensures .1)
 
 enum-known-step-2 : tie.Need-enum-known-step-2 Inv-loop μ-loop
@@ -76,7 +77,8 @@ enum-told c = search needs
 returns-4 : tie.Need-returns-4 Inv-loop μ-loop
 unfolding FieldSays
 returns-4 c =
-    goes-wrong _ _ _ _ _ _ _ (c .before .before .before .before .before .loop .inv) (omega arith) _ (c .before .before .take-byte .ensures .0)
+    goes-wrong _ _ _ _ _ _ _ (c .before .before .before .before .before .loop .inv) (omega arith) _ (c .before
+    .before .take-byte .ensures .0)
     (c .enum-told .given .1)
 
 pub field-spec : {M : Type 1} → statement M

@@ -39,7 +39,8 @@ loop-again c = let l = c .before .before .before .before .before .before in
         omega (arith, c .before .before .byte .ensures .0),
         (
           search needs,
-          puts-next _ _ _ _ _ _ (l .loop .i) src (omega arith) (l .loop .inv .1 .1 .1) (c .before .before .byte .ensures .1),
+          puts-next _ _ _ _ _ _ (l .loop .i) src (omega arith) (l .loop .inv .1 .1 .1) (c .before .before .byte
+              .ensures .1),
         ),
       ),
     )

@@ -17,7 +17,8 @@ same-length : tie.Need-same-length
 same-length c = search needs
 
 returns : tie.Need-returns
-returns c = let x = c .before .before .before .before .before .before .before .before .before .before .bytes .ensures in
+returns c = let x = c .before .before .before .before .before .before .before .before .before .before .bytes
+    .ensures in
     let y = c .before .before .before .before .before .before .number .ensures in
     let z = c .before .before .byte .ensures in
     (omega (arith, x .0, y .0, z .0), puts-field _ _ _ _ _ _ _ _ _ _ _ (x .1) (y .1) (z .1))

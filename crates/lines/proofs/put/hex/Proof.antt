@@ -39,7 +39,8 @@ loop-again c = let l = c .before .before .before .before .before .before in
         omega (arith, c .before .before .pair .ensures .0),
         (
           search needs,
-          hex-next _ _ _ _ _ _ (l .loop .i) src (omega arith) (l .loop .inv .1 .1 .1) (c .before .before .pair .ensures .1),
+          hex-next _ _ _ _ _ _ (l .loop .i) src (omega arith) (l .loop .inv .1 .1 .1) (c .before .before .pair
+              .ensures .1),
         ),
       ),
     )

@@ -26,7 +26,12 @@ returns : tie.Need-returns
 returns c = let d = c .before .before .before .before .before .decimal in
     let s = c .before .before .before .before .before .before .before .before in
     let w = c .before .before .bytes in (
-      omega (arith, w .ensures .0, few-digits (d .result) (s .args .n) _ (omega arith) (d .ensures .1 .0) (d .ensures .1 .1)),
+      omega (
+        arith,
+        w .ensures .0,
+        few-digits (d .result) (s .args .n) _ (omega arith) (d .ensures .1 .0) (d
+            .ensures .1 .1),
+      ),
       puts-decimal _ _ _ _ (d .result) (s .args .n) _ (d .ensures .1 .0) (d .ensures .1 .1) (w .ensures .1),
     )
 

@@ -21,8 +21,11 @@ same-length c = search needs
 
 returns : tie.Need-returns
 returns c = let x = c .before .before .before .before .before .before .before .byte .ensures in
-    let y = c .before .before .byte2 .ensures in
-    (omega (arith, x .0, y .0), puts-pair _ _ _ _ _ _ _ (rw (c .before .before .before .before .before .before .before .before .glyph .ensures) at (x .1)) (rw (c .before .before .before .glyph2 .ensures) at (y .1)))
+    let y = c .before .before .byte2 .ensures in (
+      omega (arith, x .0, y .0),
+      puts-pair _ _ _ _ _ _ _ (rw (c .before .before .before .before .before .before
+          .before .before .glyph .ensures) at (x .1)) (rw (c .before .before .before .glyph2 .ensures) at (y .1)),
+    )
 
 pub pair-spec : {M : Type 1} → statement M
 pair-spec =

@@ -41,13 +41,15 @@ refuse-start-requires-3 c κs = search needs
 returns-3 : tie.Need-returns-3
 returns-3 c =
     c .refuse-start3 .ensures ∙ bad-counts limits _ _ _
-    (sym (c .before .before .before .before .before .sizes .ensures) ∙ not-false _ (c .before .before .before .before .if1 .left)) (omega arith)
+    (sym (c .before .before .before .before .before .sizes .ensures) ∙ not-false _ (c .before .before .before
+    .before .if1 .left)) (omega arith)
     (sym (c .before .before .are-counts .ensures) ∙ not-true _ (c .before .if3 .taken))
 
 cells-of-requires : tie.Need-cells-of-requires
 cells-of-requires c κs = let a = c .before .before .before .before .before .before .args in
     in-size limits (a .machines) _
-    (sym (c .before .before .before .before .sizes .ensures) ∙ not-false _ (c .before .before .before .if1 .left)) .width-most
+    (sym (c .before .before .before .before .sizes .ensures) ∙ not-false _ (c .before .before .before .if1 .left))
+    .width-most
 
 start-requires : tie.Need-start-requires
 start-requires c κs = search needs
@@ -55,7 +57,8 @@ start-requires c κs = search needs
 returns-4 : tie.Need-returns-4
 returns-4 c =
     good-start limits _ _ _
-    (sym (c .before .before .before .before .before .before .sizes .ensures) ∙ not-false _ (c .before .before .before .before .before .if1 .left)) (omega arith)
+    (sym (c .before .before .before .before .before .before .sizes .ensures) ∙ not-false _ (c .before .before
+    .before .before .before .if1 .left)) (omega arith)
     _ (sym (c .before .before .before .are-counts .ensures) ∙ not-false _ (c .before .before .if3 .left))
     (rw (c .before .cells-of .ensures) at (c .start .ensures))
 

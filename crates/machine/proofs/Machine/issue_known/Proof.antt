@@ -15,7 +15,8 @@ not-issued-requires c κs = search needs
 
 returns : tie.Need-returns
 returns c = let s = c .before .before .before .before in
-    issue-known-leaves limits (s .args .self) (s .args .op .now) (field-long (s .args .self .queue) _ _ (s .good .0 .1 .1 .1 .1 .1 .1 .1 .1 .1 .0 .1 .0 .1)) (s .pre .0) (s .pre .1) _
+    issue-known-leaves limits (s .args .self) (s .args .op .now) (field-long (s .args .self .queue) _ _ (s .good .0
+    .1 .1 .1 .1 .1 .1 .1 .1 .1 .0 .1 .0 .1)) (s .pre .0) (s .pre .1) _
     (c .not-issued .ensures ∙ known-full limits _ _ (omega arith))
 
 not-issued-requires-2 : tie.Need-not-issued-requires-2
@@ -23,7 +24,8 @@ not-issued-requires-2 c κs = search needs
 
 returns-2 : tie.Need-returns-2
 returns-2 c = let s = c .before .before .before .before .before .before in
-    issue-known-leaves limits (s .args .self) (s .args .op .now) (field-long (s .args .self .queue) _ _ (s .good .0 .1 .1 .1 .1 .1 .1 .1 .1 .1 .0 .1 .0 .1)) (s .pre .0) (s .pre .1) _
+    issue-known-leaves limits (s .args .self) (s .args .op .now) (field-long (s .args .self .queue) _ _ (s .good .0
+    .1 .1 .1 .1 .1 .1 .1 .1 .1 .0 .1 .0 .1)) (s .pre .0) (s .pre .1) _
     (c .not-issued2 .ensures ∙ known-all limits _ _ (omega arith) (omega arith))
 
 run-known-requires : tie.Need-run-known-requires
@@ -34,7 +36,8 @@ not-issued-requires-3 c κs = search needs
 
 returns-3 : tie.Need-returns-3
 returns-3 c = let s = c .before .before .before .before .before .before .before .before .before .before .before in
-    issue-known-leaves limits (s .args .self) (s .args .op .now) (field-long (s .args .self .queue) _ _ (s .good .0 .1 .1 .1 .1 .1 .1 .1 .1 .1 .0 .1 .0 .1)) (s .pre .0) (s .pre .1) _
+    issue-known-leaves limits (s .args .self) (s .args .op .now) (field-long (s .args .self .queue) _ _ (s .good .0
+    .1 .1 .1 .1 .1 .1 .1 .1 .1 .0 .1 .0 .1)) (s .pre .0) (s .pre .1) _
     (c .not-issued3 .ensures ∙ known-fails limits _ _ (omega arith) (omega arith) _
     (c .before .before .before .run-known .ensures) (not-true _ (c .before .if3 .taken)))
 
@@ -45,7 +48,8 @@ sell-requires c κs = let r = c .before .before .before .before .before .before 
 
 returns-4 : tie.Need-returns-4
 returns-4 c = let s = c .before .before .before .before .before .before .before .before .before .before .before in
-    issue-known-leaves limits (s .args .self) (s .args .op .now) (field-long (s .args .self .queue) _ _ (s .good .0 .1 .1 .1 .1 .1 .1 .1 .1 .1 .0 .1 .0 .1)) (s .pre .0) (s .pre .1) _
+    issue-known-leaves limits (s .args .self) (s .args .op .now) (field-long (s .args .self .queue) _ _ (s .good .0
+    .1 .1 .1 .1 .1 .1 .1 .1 .1 .0 .1 .0 .1)) (s .pre .0) (s .pre .1) _
     (c .sell .ensures ∙ known-sold limits _ _ (omega arith) (omega arith) _
     (c .before .before .before .run-known .ensures) (not-false _ (c .before .if3 .left)))
 

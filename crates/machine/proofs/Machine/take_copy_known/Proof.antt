@@ -15,7 +15,9 @@ not-copied-requires c κs = search needs
 
 returns : tie.Need-returns
 returns c = let s = c .before .before .before .before in
-    copy-known-leaves limits (s .args .self) (s .args .position) (s .args .cells .now) (s .args .decided) (field-long (s .args .self .queue) _ _ (s .good .0 .1 .1 .1 .1 .1 .1 .1 .1 .1 .0 .1 .0 .1)) (s .pre .0) (s .pre .1) _
+    copy-known-leaves limits (s .args .self) (s .args .position) (s .args .cells .now) (s .args .decided)
+    (field-long (s .args .self .queue) _ _ (s .good .0 .1 .1 .1 .1 .1 .1 .1 .1 .1 .0 .1 .0 .1)) (s .pre .0) (s
+    .pre .1) _
     (c .not-copied .ensures ∙ copy-old limits _ _ _ _ (omega arith))
 
 not-copied-requires-2 : tie.Need-not-copied-requires-2
@@ -23,7 +25,9 @@ not-copied-requires-2 c κs = search needs
 
 returns-2 : tie.Need-returns-2
 returns-2 c = let s = c .before .before .before .before .before .before in
-    copy-known-leaves limits (s .args .self) (s .args .position) (s .args .cells .now) (s .args .decided) (field-long (s .args .self .queue) _ _ (s .good .0 .1 .1 .1 .1 .1 .1 .1 .1 .1 .0 .1 .0 .1)) (s .pre .0) (s .pre .1) _
+    copy-known-leaves limits (s .args .self) (s .args .position) (s .args .cells .now) (s .args .decided)
+    (field-long (s .args .self .queue) _ _ (s .good .0 .1 .1 .1 .1 .1 .1 .1 .1 .1 .0 .1 .0 .1)) (s .pre .0) (s
+    .pre .1) _
     (c .not-copied2 .ensures ∙ copy-below limits _ _ _ _ (omega arith) (omega arith))
 
 not-copied-requires-3 : tie.Need-not-copied-requires-3
@@ -31,7 +35,9 @@ not-copied-requires-3 c κs = search needs
 
 returns-3 : tie.Need-returns-3
 returns-3 c = let s = c .before .before .before .before .before .before .before .before in
-    copy-known-leaves limits (s .args .self) (s .args .position) (s .args .cells .now) (s .args .decided) (field-long (s .args .self .queue) _ _ (s .good .0 .1 .1 .1 .1 .1 .1 .1 .1 .1 .0 .1 .0 .1)) (s .pre .0) (s .pre .1) _
+    copy-known-leaves limits (s .args .self) (s .args .position) (s .args .cells .now) (s .args .decided)
+    (field-long (s .args .self .queue) _ _ (s .good .0 .1 .1 .1 .1 .1 .1 .1 .1 .1 .0 .1 .0 .1)) (s .pre .0) (s
+    .pre .1) _
     (c .not-copied3 .ensures ∙ copy-above limits _ _ _ _ (omega arith) (omega arith) (omega arith))
 
 cells-of-requires : tie.Need-cells-of-requires
@@ -58,7 +64,9 @@ copy-requires c κs = let r = c .before .before .before .before .before .before 
 
 returns-4 : tie.Need-returns-4
 returns-4 c = let s = c .before .before .before .before .before .before .before .before .before .before in
-    copy-known-leaves limits (s .args .self) (s .args .position) (s .args .cells .now) (s .args .decided) (field-long (s .args .self .queue) _ _ (s .good .0 .1 .1 .1 .1 .1 .1 .1 .1 .1 .0 .1 .0 .1)) (s .pre .0) (s .pre .1) _
+    copy-known-leaves limits (s .args .self) (s .args .position) (s .args .cells .now) (s .args .decided)
+    (field-long (s .args .self .queue) _ _ (s .good .0 .1 .1 .1 .1 .1 .1 .1 .1 .1 .0 .1 .0 .1)) (s .pre .0) (s
+    .pre .1) _
     (c .copy .ensures ∙ copy-done limits _ _ _ _ (omega arith) (omega arith) _ (omega arith)
     (c .before .before .cells-of .ensures))
 

@@ -16,7 +16,9 @@ not-taken-requires c κs = search needs
 
 returns : tie.Need-returns
 returns c = let s = c .before .before .before .before in
-    record-known-leaves limits (s .args .self) (s .args .n) (s .args .who) (s .args .number) (s .args .op .now) (field-long (s .args .self .queue) _ _ (s .good .0 .1 .1 .1 .1 .1 .1 .1 .1 .1 .0 .1 .0 .1)) (s .pre .0) (s .pre .2) _
+    record-known-leaves limits (s .args .self) (s .args .n) (s .args .who) (s .args .number) (s .args .op .now)
+    (field-long (s .args .self .queue) _ _ (s .good .0 .1 .1 .1 .1 .1 .1 .1 .1 .1 .0 .1 .0 .1)) (s .pre .0) (s
+    .pre .2) _
     (c .not-taken .ensures ∙ is-old limits _ _ _ _ _ (omega arith))
 
 not-taken-requires-2 : tie.Need-not-taken-requires-2
@@ -24,7 +26,9 @@ not-taken-requires-2 c κs = search needs
 
 returns-2 : tie.Need-returns-2
 returns-2 c = let s = c .before .before .before .before .before .before in
-    record-known-leaves limits (s .args .self) (s .args .n) (s .args .who) (s .args .number) (s .args .op .now) (field-long (s .args .self .queue) _ _ (s .good .0 .1 .1 .1 .1 .1 .1 .1 .1 .1 .0 .1 .0 .1)) (s .pre .0) (s .pre .2) _
+    record-known-leaves limits (s .args .self) (s .args .n) (s .args .who) (s .args .number) (s .args .op .now)
+    (field-long (s .args .self .queue) _ _ (s .good .0 .1 .1 .1 .1 .1 .1 .1 .1 .1 .0 .1 .0 .1)) (s .pre .0) (s
+    .pre .2) _
     (c .not-taken2 .ensures ∙ is-early limits _ _ _ _ _ (omega arith) (omega arith))
 
 run-known-requires : tie.Need-run-known-requires
@@ -39,7 +43,9 @@ take-other-requires c κs =
 
 returns-3 : tie.Need-returns-3
 returns-3 c = let s = c .before .before .before .before .before .before .before .before .before .before .before in
-    record-known-leaves limits (s .args .self) (s .args .n) (s .args .who) (s .args .number) (s .args .op .now) (field-long (s .args .self .queue) _ _ (s .good .0 .1 .1 .1 .1 .1 .1 .1 .1 .1 .0 .1 .0 .1)) (s .pre .0) (s .pre .2) _
+    record-known-leaves limits (s .args .self) (s .args .n) (s .args .who) (s .args .number) (s .args .op .now)
+    (field-long (s .args .self .queue) _ _ (s .good .0 .1 .1 .1 .1 .1 .1 .1 .1 .1 .0 .1 .0 .1)) (s .pre .0) (s
+    .pre .2) _
     (c .take-other .ensures ∙ is-other limits _ _ _ _ _ (omega arith) (omega arith) _ (c .before .if3 .taken)
     (c .before .before .before .run-known .ensures))
 
@@ -50,8 +56,11 @@ not-taken-requires-3 : tie.Need-not-taken-requires-3
 not-taken-requires-3 c κs = search needs
 
 returns-4 : tie.Need-returns-4
-returns-4 c = let s = c .before .before .before .before .before .before .before .before .before .before .before .before .before in
-    record-known-leaves limits (s .args .self) (s .args .n) (s .args .who) (s .args .number) (s .args .op .now) (field-long (s .args .self .queue) _ _ (s .good .0 .1 .1 .1 .1 .1 .1 .1 .1 .1 .0 .1 .0 .1)) (s .pre .0) (s .pre .2) _
+returns-4 c = let s = c .before .before .before .before .before .before .before .before .before .before .before
+    .before .before in
+    record-known-leaves limits (s .args .self) (s .args .n) (s .args .who) (s .args .number) (s .args .op .now)
+    (field-long (s .args .self .queue) _ _ (s .good .0 .1 .1 .1 .1 .1 .1 .1 .1 .1 .0 .1 .0 .1)) (s .pre .0) (s
+    .pre .2) _
     (c .not-taken3 .ensures ∙ is-not-issued limits _ _ _ _ _ (omega arith) (omega arith) (omega arith)
     (sym (c .before .before .as-issued .ensures) ∙ not-true _ (c .before .if4 .taken)))
 
@@ -74,8 +83,11 @@ take-own-requires c κs =
     }
 
 returns-5 : tie.Need-returns-5
-returns-5 c = let s = c .before .before .before .before .before .before .before .before .before .before .before .before .before in
-    record-known-leaves limits (s .args .self) (s .args .n) (s .args .who) (s .args .number) (s .args .op .now) (field-long (s .args .self .queue) _ _ (s .good .0 .1 .1 .1 .1 .1 .1 .1 .1 .1 .0 .1 .0 .1)) (s .pre .0) (s .pre .2) _
+returns-5 c = let s = c .before .before .before .before .before .before .before .before .before .before .before
+    .before .before in
+    record-known-leaves limits (s .args .self) (s .args .n) (s .args .who) (s .args .number) (s .args .op .now)
+    (field-long (s .args .self .queue) _ _ (s .good .0 .1 .1 .1 .1 .1 .1 .1 .1 .1 .0 .1 .0 .1)) (s .pre .0) (s
+    .pre .2) _
     (c .take-own .ensures ∙ is-own limits _ _ _ _ _ (omega arith) (omega arith) (omega arith) _
     (sym (c .before .before .as-issued .ensures) ∙ not-false _ (c .before .if4 .left))
     (c .before .before .before .before .before .run-known .ensures))
