@@ -1,11 +1,13 @@
 // What several crates stand on: the answers by name, and small functions on slices and bytes.
+#![tactic(auto)]
+
 ghost use Rattle.std.specs.Prelude.{◌≡◌, drop, ltb, leb, eqb, true};
 ghost use Rattle.basics.specs.Choice.{if◌then◌else◌};
 ghost use Rattle.basics.specs.Answers.{number_of};
 ghost use Rattle.basics.specs.Counts.{counts, zeros_from};
 
 // What a call answers: done, or why it refuses. `number_of` in specs/Answers.antt has the paper's number of each.
-#[derive(Drop)]
+#[derive(Clone, Copy)]
 pub enum Answer {
     Done,
     OutOfShape,

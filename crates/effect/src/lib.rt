@@ -1,4 +1,6 @@
 // What an operation does to the cells: run once, or replayed with others.
+#![tactic(auto)]
+
 mod plain;
 mod walk;
 
@@ -37,7 +39,7 @@ pub fn cells_of(first: &[u32]) -> Cells
 }
 
 // What running tells.
-#[derive(Drop)]
+#[derive(Clone, Copy)]
 pub struct Ran {
     pub ok: bool,
 }
@@ -50,7 +52,7 @@ pub fn bit(ok: bool) -> u8
 }
 
 // What becomes of bytes that are to be run.
-#[derive(Drop)]
+#[derive(Clone, Copy)]
 pub enum Verdict {
     Malformed,
     Fails,

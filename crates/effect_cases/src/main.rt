@@ -1,5 +1,7 @@
 // Runs each line of the files cases.txt and edges.txt, `5,0 0400010003 -> succeeds 2,3`, through the proved code. It writes each
 // line on which the code gives something else, and how many agree and differ.
+#![tactic(auto)]
+
 ghost use Rattle.std.specs.Prelude.{◌≤◌};
 
 use libc::STDOUT_FILENO;

@@ -1,5 +1,7 @@
 // The hub: its state, and submit, fetch and copy. Each call tests the state's shape and its arguments, in the paper's order
 // of refusals; its `_known` form is for a state that is known to be in shape.
+#![tactic(auto)]
+
 mod answers;
 mod done;
 pub mod ring;
@@ -22,7 +24,7 @@ use operation::keep::lay;
 use operation::{BYTES, HELD, Packed};
 
 // A decided operation: whose it was, its number there, and the operation.
-#[derive(Drop)]
+#[derive(Clone, Copy)]
 pub struct Record {
     pub machine: u8,
     pub number: u64,
@@ -31,7 +33,7 @@ pub struct Record {
 
 // What the hub holds: how many machines and cells there are, the counts, the next operation number of each machine, and the
 // last records, of which record n stands in place n mod 256.
-#[derive(Drop)]
+#[derive(Clone, Copy)]
 pub struct Hub {
     pub machines: usize,
     pub width: usize,
@@ -47,14 +49,14 @@ pub type Records = [Record; KEPT];
 const KEPT: usize = 256;
 
 // What each call answers. A refusal has its answer and zeros, and submit hands the hub back as it came.
-#[derive(Drop)]
+#[derive(Clone, Copy)]
 pub struct Made {
     pub answer: Answer,
     pub hub: Hub,
 }
 
 // The outcome, 1 or 0, and the number of the record.
-#[derive(Drop)]
+#[derive(Clone, Copy)]
 pub struct Submitted {
     pub answer: Answer,
     pub outcome: u8,
@@ -63,7 +65,7 @@ pub struct Submitted {
 }
 
 // Whose operation it was, its number there and its length.
-#[derive(Drop)]
+#[derive(Clone, Copy)]
 pub struct Fetched {
     pub answer: Answer,
     pub machine: usize,
@@ -72,7 +74,7 @@ pub struct Fetched {
 }
 
 // The hub's position, and how many operations of the machine it has decided.
-#[derive(Drop)]
+#[derive(Clone, Copy)]
 pub struct Copied {
     pub answer: Answer,
     pub position: u64,

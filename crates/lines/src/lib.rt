@@ -1,4 +1,6 @@
 // Texts of lines: fields, which are a key, a number and the byte that ends it, and bytes in hexadecimal.
+#![tactic(auto)]
+
 pub mod put;
 
 ghost use Rattle.std.specs.Prelude.{◌≡◌, List, ◌∷◌, ℕ};
@@ -9,7 +11,7 @@ pub const LF: u8 = 10;
 pub const COMMA: u8 = 44;
 
 // What a field may be: the range of its number, of which the least is 0 or 1, and the byte that ends it.
-#[derive(Drop)]
+#[derive(Clone, Copy)]
 pub struct Field {
     pub low: u8,
     pub top: u64,
@@ -17,7 +19,7 @@ pub struct Field {
 }
 
 // What one byte does to a field: it goes on, with so many bytes of the key seen and this number, or it is ended, or wrong.
-#[derive(Drop)]
+#[derive(Clone, Copy)]
 pub enum Step {
     More(usize, u64),
     Ended(u64),
@@ -79,13 +81,13 @@ fn digit(key: &[u8], f: Field, seen: usize, value: u64, b: u8) -> Step
 }
 
 // A place in a text.
-#[derive(Drop)]
+#[derive(Clone, Copy)]
 pub struct Cursor {
     pub at: usize,
 }
 
 // A field's number and the place after it, or that it is wrong.
-#[derive(Drop)]
+#[derive(Clone, Copy)]
 pub enum Passed {
     Got(u64, Cursor),
     Wrong,

@@ -1,5 +1,7 @@
 // The selling machine: its state and its five calls. Each call tests the state's shape and its arguments, in the paper's
 // order of refusals; its `_known` form is for a state that is known to be in shape.
+#![tactic(auto)]
+
 mod answers;
 mod arrivals;
 mod done;
@@ -26,7 +28,7 @@ use operation::{BYTES, HELD};
 // What a machine holds: how many machines and cells there are and its own number; the agreed counts and how many records
 // it has taken in; its guess, and the sales that wait, the oldest first; how many it has issued and had decided, and how
 // those ended; its notes.
-#[derive(Drop)]
+#[derive(Clone, Copy)]
 pub struct Machine {
     pub machines: usize,
     pub width: usize,
@@ -47,27 +49,27 @@ pub struct Machine {
 const NOTES: usize = 4;
 
 // What each call answers, with the machine after it. A refusal has its answer, zeros, and the machine as it came.
-#[derive(Drop)]
+#[derive(Clone, Copy)]
 pub struct Made {
     pub answer: Answer,
     pub machine: Machine,
 }
 
-#[derive(Drop)]
+#[derive(Clone, Copy)]
 pub struct Issued {
     pub answer: Answer,
     pub number: u64,
     pub machine: Machine,
 }
 
-#[derive(Drop)]
+#[derive(Clone, Copy)]
 pub struct Noted {
     pub answer: Answer,
     pub count: u32,
     pub machine: Machine,
 }
 
-#[derive(Drop)]
+#[derive(Clone, Copy)]
 pub struct Asked {
     pub answer: Answer,
     pub number: u64,
@@ -75,7 +77,7 @@ pub struct Asked {
 }
 
 // The outcome is 1 or 0 of an own record, and 2 of another's.
-#[derive(Drop)]
+#[derive(Clone, Copy)]
 pub struct Taken {
     pub answer: Answer,
     pub outcome: u8,
@@ -83,7 +85,7 @@ pub struct Taken {
 }
 
 // How many operations left the queue.
-#[derive(Drop)]
+#[derive(Clone, Copy)]
 pub struct Copied {
     pub answer: Answer,
     pub left: usize,

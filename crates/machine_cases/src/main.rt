@@ -1,5 +1,7 @@
 // Walks each call of the machine through every one of its answers, each pair of neighbouring refusals with both reasons
 // there, and each way out of shape. The file stdout beside this has what must come, to be laid beside the paper.
+#![tactic(auto)]
+
 mod asking;
 mod copying;
 mod issuing;

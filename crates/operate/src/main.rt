@@ -1,5 +1,7 @@
 // Runs operations over cells. Each line of standard input is a trial, `5,0 0400010003`: the cells, and an operation in
 // hexadecimal. Each is written out with what becomes of it, `5,0 0400010003 -> succeeds 2,3`.
+#![tactic(auto)]
+
 use libc::{STDERR_FILENO, STDIN_FILENO, STDOUT_FILENO};
 
 // One byte of the buffer is left over, so that longer input is not taken for its first part.

@@ -7,7 +7,7 @@ use crate::{AMOUNT, PARTS, Plain};
 use basics::index;
 
 // The kind that the first byte decides: all of a plain operation, how many parts an ATOMIC has.
-#[derive(Drop)]
+#[derive(Clone, Copy)]
 pub enum Kind {
     One(Plain),
     Atomic(u8),
@@ -16,7 +16,7 @@ pub enum Kind {
 }
 
 // A cell and an amount, both in range.
-#[derive(Drop)]
+#[derive(Clone, Copy)]
 pub enum Fields {
     Of(u8, u16),
     Wrong,

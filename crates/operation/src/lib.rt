@@ -1,6 +1,8 @@
 // What bytes mean: which of them are an operation, and how many bytes an operation takes.
 //
 // The code works on the bytes. The definitions, in specs/, read them into a tree; `well_formed` answers whether they can.
+#![tactic(auto)]
+
 pub mod keep;
 pub mod kind;
 pub mod size;
@@ -27,7 +29,7 @@ pub const AMOUNT: u16 = 10_000;
 pub const PARTS: u8 = 15;
 
 // One of the four plain kinds: a cell, for `Move` the cell from and the cell to, and an amount.
-#[derive(Drop)]
+#[derive(Clone, Copy)]
 pub enum Plain {
     Need(u8, u16),
     Put(u8, u16),
@@ -36,7 +38,7 @@ pub enum Plain {
 }
 
 // An operation as it is kept: its length, and its bytes with zeros after them.
-#[derive(Drop)]
+#[derive(Clone, Copy)]
 pub struct Packed {
     pub len: u8,
     pub bytes: [u8; BYTES],

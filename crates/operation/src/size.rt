@@ -10,7 +10,7 @@ use basics::after;
 use kind::Kind;
 
 // How many bytes, or that there is no such operation.
-#[derive(Drop)]
+#[derive(Clone, Copy)]
 pub enum Size {
     Bytes(usize),
     Malformed,

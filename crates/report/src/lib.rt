@@ -1,4 +1,6 @@
 // What a program that tries cases writes on standard output.
+#![tactic(auto)]
+
 use basics::{Answer, index};
 use libc::STDOUT_FILENO;
 

@@ -1,4 +1,6 @@
 // What the states of machines and hub have in common: their sizes, their cells, and the operations that they keep.
+#![tactic(auto)]
+
 ghost use Rattle.std.specs.Prelude.{◌≡◌, ◌&&◌, take, ◌≤◌};
 ghost use Rattle.basics.specs.Counts.{counts, zeros_from};
 ghost use Rattle.operation.specs.Limits.{limits};

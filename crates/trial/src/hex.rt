@@ -1,7 +1,7 @@
 // The operation of a trial: bytes in lower-case hexadecimal.
 ghost use Rattle.std.specs.Prelude.{◌≤◌, length};
 
-#[derive(Drop)]
+#[derive(Clone, Copy)]
 pub struct Spelt {
     pub ok: bool,
     pub len: usize,

@@ -1,4 +1,6 @@
 // A trial in text: cells and an operation, `5,0 0400010003`, and what becomes of them, `succeeds 2,3`.
+#![tactic(auto)]
+
 mod cells;
 mod hex;
 mod text;

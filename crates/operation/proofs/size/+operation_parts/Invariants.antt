@@ -1,0 +1,9 @@
+-- The depth falls, or it stays and the parts that are left fall.
+use Rattle.std.proofs.Common.{◌+◌, ◌*◌}
+use Rattle.operation.proofs.size.+operation_parts.Given as goal
+
+abbrev pub decreases-operation : goal.decreases-operation
+decreases-operation l = l.depth * 512
+
+abbrev pub decreases-parts : goal.decreases-parts
+decreases-parts l = l.depth * 512 + l.n + 1
