@@ -25,15 +25,15 @@ loop-at-preserved c =
 pub returns-in-Ended : goal.returns-in-Ended
 unfolding FieldSays
 returns-in-Ended c = (
-      goes_out _ _ _ _ _ _ _ c.loop-at.invariant (omega arith) _ c.take_byte-step.ensures.goes _ c.in-Ended.is,
-      (
-        omega (arith, c.loop-at.invariant.from),
-        (
-          omega arith,
-          out_kept _ _ _ _ _ _ _ c.loop-at.invariant (omega arith) _ c.take_byte-step.ensures.goes _ c.in-Ended.is c.take_byte-step.ensures.kept,
-        ),
-      ),
-    )
+  goes_out _ _ _ _ _ _ _ c.loop-at.invariant (omega arith) _ c.take_byte-step.ensures.goes _ c.in-Ended.is,
+  (
+    omega (arith, c.loop-at.invariant.from),
+    (
+      omega arith,
+      out_kept _ _ _ _ _ _ _ c.loop-at.invariant (omega arith) _ c.take_byte-step.ensures.goes _ c.in-Ended.is c.take_byte-step.ensures.kept,
+    ),
+  ),
+)
 
 pub returns-in-Wrong : goal.returns-in-Wrong
 unfolding FieldSays
