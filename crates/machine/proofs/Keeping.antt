@@ -11,7 +11,6 @@ use borrow.Author.Tests.{ltb-true, ltb-false, leb-false, not-false}
 use Rattle.basics.specs.Counts.{counts}
 use Rattle.basics.proofs.Choice.{by_cases, and_both}
 use Rattle.operation.specs.Limits.{Limits}
-use Rattle.operation.specs.Packing.{nothing}
 use Rattle.operation.specs.Reading.{well_formed}
 use Rattle.effect.specs.Running.{filled, outcome}
 use Rattle.effect.specs.Replaying.{most_queued}
