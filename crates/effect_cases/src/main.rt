@@ -2,16 +2,19 @@
 // line on which the code gives something else, and how many agree and differ.
 #![tactic(auto)]
 
-ghost use Rattle.std.specs.Prelude.{◌≤◌};
+ghost use Rattle.std.specs.Prelude.{◌≤◌, IfOk};
 
-use libc::STDOUT_FILENO;
+use std::rt::Files;
+use std::{fs, io};
 
 // One byte of the buffer is left over, so that a longer file is not taken for its first part.
 const MOST: usize = 65_535;
 
 // Whether the code gives for a line what stands behind its arrow; a line with no arrow does not agree.
 fn agrees(line: &[u8]) -> bool {
-    let at = bytes::scan::find(line, 0, line.len(), b'>');
+    let Some(at) = line.iter().position(|b| *b == b'>') else {
+        return false;
+    };
     if at < 3 {
         return false;
     }
@@ -24,58 +27,44 @@ fn agrees(line: &[u8]) -> bool {
 }
 
 // 1 for a line that agrees; any other is written, and counts 0.
-fn tally(line: &[u8]) -> u64
-    ensures { result ≤ 1 }
+fn tally(rt: &impl Print, line: &[u8]) -> io::Result<u64>
+    ensures { IfOk result (λ n. n ≤ 1) }
 {
     if agrees(line) {
-        return 1;
+        return Ok(1);
     }
-    io::write_all(STDOUT_FILENO, b"differs: ");
-    io::write_all(STDOUT_FILENO, line);
-    io::write_all(STDOUT_FILENO, b"\n");
-    0
+    rt.write_all(b"differs: ")?;
+    rt.write_all(line)?;
+    rt.write_all(b"\n")?;
+    Ok(0)
 }
 
 // Counts the lines of `text`, and writes how many agree and differ.
-fn tally_all(name: &[u8], text: &[u8]) {
+fn tally_all(rt: &impl Print, name: &str, text: &[u8]) -> io::Result<()> {
     let mut lines: u64 = 0;
     let mut agree: u64 = 0;
-    let mut at = 0;
-    while at < text.len() {
-        let end = bytes::scan::find(text, at, text.len(), b'\n');
-        agree += tally(&text[at..end]);
+    for line in text.split_inclusive(|b| *b == b'\n') {
+        agree += tally(rt, trial::inside(line))?;
         lines += 1;
-        at = end + 1;
     }
-    io::write_all(STDOUT_FILENO, name);
-    io::write_all(STDOUT_FILENO, b": ");
-    io::print_decimal(STDOUT_FILENO, agree);
-    io::write_all(STDOUT_FILENO, b" agree, ");
-    io::print_decimal(STDOUT_FILENO, lines - agree);
-    io::write_all(STDOUT_FILENO, b" differ\n");
+    println!(rt; "{name}: {agree} agree, {} differ", lines - agree)
 }
 
 // Counts the lines of a file, or says why it cannot be read.
-fn tally_file(name: &[u8]) {
-    let fd = os::open_read(name);
-    if fd < 0 {
-        os::fail(name);
-        return;
-    }
-    let mut input = io::large_buffer();
-    let n = io::read_full(fd, &mut input);
-    libc::close(fd);
+fn tally_file(rt: &(impl Files + Print + Eprint), name: &str) -> io::Result<()> {
+    let mut file = match fs::open(rt, name) {
+        Ok(file) => file,
+        Err(error) => return rt.eprintln(format_args!("{name}: {error}")),
+    };
+    let mut input = [0u8; MOST + 1];
+    let n = trial::fill(&mut file, &mut input)?;
     if MOST < n {
-        io::write_all(
-            STDOUT_FILENO,
-            b"more than 65,535 bytes of cases: none was run\n",
-        );
-        return;
+        return rt.println("more than 65,535 bytes of cases: none was run");
     }
-    tally_all(name, &input[..n]);
+    tally_all(rt, name, &input[..n])
 }
 
-fn main() {
-    tally_file(b"cases.txt");
-    tally_file(b"edges.txt");
+fn main(rt: HostRuntime) -> io::Result<()> {
+    tally_file(&rt, "cases.txt")?;
+    tally_file(&rt, "edges.txt")
 }

@@ -2,6 +2,7 @@
 use effect::Cells;
 use hub::{Hub, Next, Record, Records};
 use operation::{BYTES, Packed};
+use std::io;
 
 // A hub of 3 machines with the counts 5 and 0, which has decided nothing yet.
 pub fn fresh() -> Hub {
@@ -57,21 +58,21 @@ pub fn out_of_shape(h: Hub) -> Hub {
 }
 
 // Writes how a call left the hub.
-pub fn tell(h: Hub) {
-    report::words(b"\n     ");
+pub fn tell(rt: &impl Print, h: Hub) -> io::Result<()> {
+    report::words(rt, b"\n     ")?;
     let cells = h.cells;
-    tell_cells(cells, h.width);
+    tell_cells(rt, cells, h.width)?;
     let next = h.next;
-    tell_next(next, h.machines);
-    report::words(b"\n");
+    tell_next(rt, next, h.machines)?;
+    report::words(rt, b"\n")
 }
 
-fn tell_cells(cells: Cells, width: usize) {
-    report::counts(b"cells", &cells, width);
+fn tell_cells(rt: &impl Print, cells: Cells, width: usize) -> io::Result<()> {
+    report::counts(rt, b"cells", &cells, width)
 }
 
-fn tell_next(next: Next, machines: usize) {
-    report::numbers(b"next", &next, machines);
+fn tell_next(rt: &impl Print, next: Next, machines: usize) -> io::Result<()> {
+    report::numbers(rt, b"next", &next, machines)
 }
 
 // Whether two hubs are the same in every field.

@@ -10,10 +10,12 @@ mod shapes;
 mod starting;
 mod submitting;
 
-fn main() {
-    starting::walk();
-    submitting::walk();
-    fetching::walk();
-    copying::walk();
-    shapes::walk();
+use std::io;
+
+fn main(rt: HostRuntime) -> io::Result<()> {
+    starting::walk(&rt)?;
+    submitting::walk(&rt)?;
+    fetching::walk(&rt)?;
+    copying::walk(&rt)?;
+    shapes::walk(&rt)
 }

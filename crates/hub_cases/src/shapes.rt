@@ -4,115 +4,123 @@ ghost use Rattle.std.specs.Prelude.{◌<◌};
 use crate::hubs;
 use basics::Answer;
 use hub::{Hub, Record};
+use std::io;
 
-pub fn walk() {
-    report::words(b"Good shape, and each way out of it: the answers of all three calls\n");
-    tried(b"in shape", hubs::after(4));
-    tried(b"in shape, the ring turned", hubs::after(260));
-    sizes();
-    counts();
-    kept();
-    numbers();
-    operations();
-    past();
+pub fn walk(rt: &impl Print) -> io::Result<()> {
+    report::words(rt, b"Good shape, and each way out of it: the answers of all three calls\n")?;
+    tried(rt, b"in shape", hubs::after(4))?;
+    tried(rt, b"in shape, the ring turned", hubs::after(260))?;
+    sizes(rt)?;
+    counts(rt)?;
+    kept(rt)?;
+    numbers(rt)?;
+    operations(rt)?;
+    past(rt)
 }
 
-fn sizes() {
+fn sizes(rt: &impl Print) -> io::Result<()> {
     let zeros = [0u32, 0];
     let empty = Hub::fresh(3, &zeros).hub;
     let mut h = empty;
     h.machines = 0;
-    tried(b"no machine", h);
+    tried(rt, b"no machine", h)?;
     h = empty;
     h.machines = 41;
-    tried(b"41 machines", h);
+    tried(rt, b"41 machines", h)?;
     h = empty;
     h.width = 0;
-    tried(b"no cell", h);
+    tried(rt, b"no cell", h)?;
     h = empty;
     h.width = 65;
-    tried(b"65 cells", h);
+    tried(rt, b"65 cells", h)
 }
 
-fn counts() {
+fn counts(rt: &impl Print) -> io::Result<()> {
     let mut h = hubs::after(4);
     h.cells[0] = 1_000_000;
-    tried(b"a cell of 1000000", h);
+    tried(rt, b"a cell of 1000000", h)?;
     h = hubs::after(4);
     h.cells[2] = 1;
-    tried(b"a cell past the number of cells", h);
+    tried(rt, b"a cell past the number of cells", h)?;
     h = hubs::after(4);
     h.cells[63] = 1;
-    tried(b"the last place of the cells", h);
+    tried(rt, b"the last place of the cells", h)?;
     h = hubs::fresh();
     h.next[0] = 1_000_000_001;
-    tried(b"a next of 1000000001", h);
+    tried(rt, b"a next of 1000000001", h)?;
     h = hubs::fresh();
     h.next[1] = 18_446_744_073_709_551_615;
     h.next[2] = 1;
-    tried(b"a sum of all next only in 64 bits", h);
+    tried(rt, b"a sum of all next only in 64 bits", h)?;
     h = hubs::after(4);
     h.next[3] = 1;
-    tried(b"a next past the number of machines", h);
+    tried(rt, b"a next past the number of machines", h)
 }
 
-fn kept() {
+fn kept(rt: &impl Print) -> io::Result<()> {
     let mut h = hubs::after(4);
     h.next[0] = 3;
-    tried(b"a record too few", h);
+    tried(rt, b"a record too few", h)?;
     h = hubs::after(4);
     h.next[0] = 1;
-    tried(b"a record too many", h);
+    tried(rt, b"a record too many", h)?;
     h = hubs::after(260);
     h.next[0] = 0;
-    tried(b"a next below its machine's kept records", h);
+    tried(rt, b"a next below its machine's kept records", h)
 }
 
-fn numbers() {
+fn numbers(rt: &impl Print) -> io::Result<()> {
     let h = hubs::after(4);
     tried(
+        rt,
         b"a number one above its place",
         changed(h, 0, 0, 1, 4, 0, 2),
-    );
+    )?;
     tried(
+        rt,
         b"a number one below its place",
         changed(h, 3, 0, 0, 4, 0, 2),
-    );
-    tried(b"two records of a machine changed about", swapped(h));
-    tried(b"a record of another machine", changed(h, 3, 1, 1, 4, 0, 2));
+    )?;
+    tried(rt, b"two records of a machine changed about", swapped(h))?;
+    tried(rt, b"a record of another machine", changed(h, 3, 1, 1, 4, 0, 2))?;
     tried(
+        rt,
         b"a record of a machine not below machines",
         changed(h, 3, 3, 1, 4, 0, 2),
-    );
-    tried(b"a record of machine 255", changed(h, 3, 255, 1, 4, 0, 2));
+    )?;
+    tried(rt, b"a record of machine 255", changed(h, 3, 255, 1, 4, 0, 2))
 }
 
-fn operations() {
+fn operations(rt: &impl Print) -> io::Result<()> {
     let h = hubs::after(4);
-    tried(b"a malformed operation", changed(h, 3, 0, 1, 4, 0, 9));
-    tried(b"an operation of no byte", changed(h, 3, 0, 1, 0, 0, 2));
-    tried(b"an operation of 49 bytes", changed(h, 3, 0, 1, 49, 0, 2));
-    tried(b"a byte past an operation", changed(h, 3, 0, 1, 4, 47, 1));
+    tried(rt, b"a malformed operation", changed(h, 3, 0, 1, 4, 0, 9))?;
+    tried(rt, b"an operation of no byte", changed(h, 3, 0, 1, 0, 0, 2))?;
+    tried(rt, b"an operation of 49 bytes", changed(h, 3, 0, 1, 49, 0, 2))?;
+    tried(rt, b"a byte past an operation", changed(h, 3, 0, 1, 4, 47, 1))
 }
 
-fn past() {
+fn past(rt: &impl Print) -> io::Result<()> {
     let h = hubs::after(4);
     tried(
+        rt,
         b"a machine past the kept records",
         changed(h, 4, 1, 0, 0, 0, 0),
-    );
+    )?;
     tried(
+        rt,
         b"a number past the kept records",
         changed(h, 4, 0, 1, 0, 0, 0),
-    );
+    )?;
     tried(
+        rt,
         b"a length past the kept records",
         changed(h, 255, 0, 0, 1, 0, 0),
-    );
+    )?;
     tried(
+        rt,
         b"a byte past the kept records",
         changed(h, 255, 0, 0, 0, 47, 1),
-    );
+    )
 }
 
 // The hub with another machine, number and length in a place of its ring, and another byte.
@@ -143,24 +151,22 @@ fn swapped(h: Hub) -> Hub {
 }
 
 // The line of one state: what each call answers, and whether submit changed it.
-fn tried(what: &[u8], h: Hub) {
-    report::words(b"  ");
-    report::words(what);
-    report::words(b":");
+fn tried(rt: &impl Print, what: &[u8], h: Hub) -> io::Result<()> {
+    report::case(rt, what)?;
     let submitted = h.submit(1, 1, b"\x10\x00");
     let submit = submitted.answer;
-    told(b"submit", submit);
+    told(rt, b"submit", submit)?;
     let mut buf = [0u8; 48];
     let got = h.fetch(3, &mut buf);
     let fetch = got.answer;
-    told(b"fetch", fetch);
+    told(rt, b"fetch", fetch)?;
     let mut cells = [0u32; 64];
     let copied = h.copy(1, &mut cells);
     let copy = copied.answer;
-    told(b"copy", copy);
-    report::state(hubs::same(h, submitted.hub));
+    told(rt, b"copy", copy)?;
+    report::state(rt, hubs::same(h, submitted.hub))
 }
 
-fn told(call: &[u8], answer: Answer) {
-    report::value(call, answer.number() as u64);
+fn told(rt: &impl Print, call: &[u8], answer: Answer) -> io::Result<()> {
+    report::value(rt, call, answer.number() as u64)
 }

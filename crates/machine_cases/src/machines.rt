@@ -3,6 +3,7 @@ use basics::Answer;
 use effect::{Cells, Queue};
 use machine::Machine;
 use operation::Packed;
+use std::io;
 
 // Machine 1 of 3 with the counts 5 and 0, which has sold nothing yet.
 pub fn fresh() -> Machine {
@@ -60,30 +61,30 @@ pub fn out_of_shape(m: Machine) -> Machine {
 }
 
 // Writes how a call left the machine.
-pub fn tell(m: Machine) {
-    report::words(b"\n     ");
-    report::value(b"position", m.position);
-    report::value(b"waiting", m.waiting as u64);
-    report::value(b"issued", m.issued);
-    report::value(b"done", m.done);
-    report::value(b"kept", m.kept);
-    report::value(b"lost", m.lost);
-    report::value(b"unheard", m.unheard);
+pub fn tell(rt: &impl Print, m: Machine) -> io::Result<()> {
+    report::words(rt, b"\n     ")?;
+    report::value(rt, b"position", m.position)?;
+    report::value(rt, b"waiting", m.waiting as u64)?;
+    report::value(rt, b"issued", m.issued)?;
+    report::value(rt, b"done", m.done)?;
+    report::value(rt, b"kept", m.kept)?;
+    report::value(rt, b"lost", m.lost)?;
+    report::value(rt, b"unheard", m.unheard)?;
     let agreed = m.agreed;
-    tell_cells(b"agreed", agreed, m.width);
+    tell_cells(rt, b"agreed", agreed, m.width)?;
     let guess = m.guess;
-    tell_cells(b"guess", guess, m.width);
+    tell_cells(rt, b"guess", guess, m.width)?;
     let notes = m.notes;
-    tell_notes(notes);
-    report::words(b"\n");
+    tell_notes(rt, notes)?;
+    report::words(rt, b"\n")
 }
 
-fn tell_cells(name: &[u8], cells: Cells, width: usize) {
-    report::counts(name, &cells, width);
+fn tell_cells(rt: &impl Print, name: &[u8], cells: Cells, width: usize) -> io::Result<()> {
+    report::counts(rt, name, &cells, width)
 }
 
-fn tell_notes(notes: [u32; Machine::NOTES]) {
-    report::counts(b"notes", &notes, Machine::NOTES);
+fn tell_notes(rt: &impl Print, notes: [u32; Machine::NOTES]) -> io::Result<()> {
+    report::counts(rt, b"notes", &notes, Machine::NOTES)
 }
 
 // Whether two machines are the same in every field.
@@ -171,10 +172,10 @@ fn same_packed(a: Packed, b: Packed) -> bool {
 }
 
 // Ends the line of a case: how a call that is done left the machine, or whether one that refuses left it as it came.
-pub fn end(answer: Answer, before: Machine, after: Machine) {
+pub fn end(rt: &impl Print, answer: Answer, before: Machine, after: Machine) -> io::Result<()> {
     if answer.number() == 0 {
-        tell(after);
+        tell(rt, after)
     } else {
-        report::state(same(before, after));
+        report::state(rt, same(before, after))
     }
 }

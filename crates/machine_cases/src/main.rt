@@ -11,12 +11,14 @@ mod recording;
 mod shapes;
 mod starting;
 
-fn main() {
-    starting::walk();
-    issuing::walk();
-    noting::walk();
-    asking::walk();
-    recording::walk();
-    copying::walk();
-    shapes::walk();
+use std::io;
+
+fn main(rt: HostRuntime) -> io::Result<()> {
+    starting::walk(&rt)?;
+    issuing::walk(&rt)?;
+    noting::walk(&rt)?;
+    asking::walk(&rt)?;
+    recording::walk(&rt)?;
+    copying::walk(&rt)?;
+    shapes::walk(&rt)
 }

@@ -2,40 +2,34 @@
 // hexadecimal. Each is written out with what becomes of it, `5,0 0400010003 -> succeeds 2,3`.
 #![tactic(auto)]
 
-use libc::{STDERR_FILENO, STDIN_FILENO, STDOUT_FILENO};
+use std::io;
 
 // One byte of the buffer is left over, so that longer input is not taken for its first part.
 const MOST: usize = 65_535;
 
 // Writes the trial and what becomes of it.
-fn show(line: &[u8]) {
+fn show(rt: &impl Print, line: &[u8]) -> io::Result<()> {
     let mut out = [0u8; trial::ANSWER];
     let n = trial::answer(line, &mut out);
-    io::write_all(STDOUT_FILENO, line);
-    io::write_all(STDOUT_FILENO, b" -> ");
-    io::write_all(STDOUT_FILENO, &out[..n]);
-    io::write_all(STDOUT_FILENO, b"\n");
+    rt.write_all(line)?;
+    rt.write_all(b" -> ")?;
+    rt.write_all(&out[..n])?;
+    rt.write_all(b"\n")
 }
 
 // Shows each line of the input, the last with or without its end.
-fn show_all(text: &[u8]) {
-    let mut at = 0;
-    while at < text.len() {
-        let end = bytes::scan::find(text, at, text.len(), b'\n');
-        show(&text[at..end]);
-        at = end + 1;
+fn show_all(rt: &impl Print, text: &[u8]) -> io::Result<()> {
+    for line in text.split_inclusive(|b| *b == b'\n') {
+        show(rt, trial::inside(line))?;
     }
+    Ok(())
 }
 
-fn main() {
-    let mut input = io::large_buffer();
-    let n = io::read_full(STDIN_FILENO, &mut input);
+fn main(rt: HostRuntime) -> io::Result<()> {
+    let mut input = [0u8; MOST + 1];
+    let n = trial::fill(&mut rt.reader(), &mut input)?;
     if MOST < n {
-        io::write_all(
-            STDERR_FILENO,
-            b"operate: more than 65,535 bytes of trials: none was run\n",
-        );
-        return;
+        return rt.eprintln("operate: more than 65,535 bytes of trials: none was run");
     }
-    show_all(&input[..n]);
+    show_all(&rt, &input[..n])
 }

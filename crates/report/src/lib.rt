@@ -2,104 +2,94 @@
 #![tactic(auto)]
 
 use basics::{Answer, index};
-use libc::STDOUT_FILENO;
+use std::io;
 
-pub fn words(s: &[u8]) {
-    io::write_all(STDOUT_FILENO, s);
+pub fn words(rt: &impl Print, s: &[u8]) -> io::Result<()> {
+    rt.write_all(s)
 }
 
-pub fn number(n: u64) {
-    io::print_decimal(STDOUT_FILENO, n);
+pub fn number(rt: &impl Print, n: u64) -> io::Result<()> {
+    rt.print(n)
+}
+
+// `  case:`, as the line of a case begins.
+pub fn case(rt: &impl Print, what: &[u8]) -> io::Result<()> {
+    words(rt, b"  ")?;
+    words(rt, what)?;
+    words(rt, b":")
 }
 
 // ` name=7`, as a value stands in a line.
-pub fn value(name: &[u8], n: u64) {
-    words(b" ");
-    words(name);
-    words(b"=");
-    number(n);
+pub fn value(rt: &impl Print, name: &[u8], n: u64) -> io::Result<()> {
+    named(rt, name)?;
+    number(rt, n)
+}
+
+fn named(rt: &impl Print, name: &[u8]) -> io::Result<()> {
+    words(rt, b" ")?;
+    words(rt, name)?;
+    words(rt, b"=")
 }
 
 // ` answer=12`, by the paper's number.
-pub fn answer(a: Answer) {
-    value(b"answer", a.number() as u64);
+pub fn answer(rt: &impl Print, a: Answer) -> io::Result<()> {
+    value(rt, b"answer", a.number() as u64)
 }
 
 // What became of the state, at the end of a line.
-pub fn state(as_it_came: bool) {
+pub fn state(rt: &impl Print, as_it_came: bool) -> io::Result<()> {
     if as_it_came {
-        words(b", state as it came\n");
+        words(rt, b", state as it came\n")
     } else {
-        words(b", state changed\n");
+        words(rt, b", state changed\n")
     }
 }
 
 // ` name=5,0`: the first `n` of `counts`.
-pub fn counts(name: &[u8], counts: &[u32], n: usize) {
-    words(b" ");
-    words(name);
-    words(b"=");
-    let mut i = 0;
-    while i < counts.len() {
-        listed(wide(counts[i]), i, n);
-        i += 1;
+pub fn counts(rt: &impl Print, name: &[u8], counts: &[u32], n: usize) -> io::Result<()> {
+    named(rt, name)?;
+    for (i, x) in counts.iter().enumerate() {
+        listed(rt, u64::from(*x), i, n)?;
     }
+    Ok(())
 }
 
 // The same of longer numbers.
-pub fn numbers(name: &[u8], numbers: &[u64], n: usize) {
-    words(b" ");
-    words(name);
-    words(b"=");
-    let mut i = 0;
-    while i < numbers.len() {
-        listed(numbers[i], i, n);
-        i += 1;
+pub fn numbers(rt: &impl Print, name: &[u8], numbers: &[u64], n: usize) -> io::Result<()> {
+    named(rt, name)?;
+    for (i, x) in numbers.iter().enumerate() {
+        listed(rt, *x, i, n)?;
     }
-}
-
-fn wide(x: u32) -> u64 {
-    x as u64
+    Ok(())
 }
 
 // The `i`-th number, with a comma before it where it is not the first.
-fn listed(x: u64, i: usize, n: usize) {
+fn listed(rt: &impl Print, x: u64, i: usize, n: usize) -> io::Result<()> {
     if n <= i {
-        return;
+        return Ok(());
     }
     if 0 < i {
-        words(b",");
+        words(rt, b",")?;
     }
-    number(x);
+    number(rt, x)
 }
 
 // Bytes in hexadecimal.
-pub fn hex(s: &[u8]) {
-    let mut i = 0;
-    while i < s.len() {
-        digit(s[i] / 16);
-        digit(s[i] % 16);
-        i += 1;
+pub fn hex(rt: &impl Print, s: &[u8]) -> io::Result<()> {
+    for b in s {
+        digit(rt, *b / 16)?;
+        digit(rt, *b % 16)?;
     }
+    Ok(())
 }
 
-fn digit(n: u8) {
+fn digit(rt: &impl Print, n: u8) -> io::Result<()> {
     let digits = *b"0123456789abcdef";
     let at = index(n % 16);
-    words(&digits[at..at + 1]);
+    words(rt, &digits[at..at + 1])
 }
 
 // Whether two slices hold the same counts.
 pub fn same_counts(a: &[u32], b: &[u32]) -> bool {
-    if a.len() != b.len() {
-        return false;
-    }
-    let mut i = 0;
-    while i < a.len() {
-        if a[i] != b[i] {
-            return false;
-        }
-        i += 1;
-    }
-    true
+    a == b
 }

@@ -3,11 +3,13 @@
 
 mod cells;
 mod hex;
+mod input;
 mod text;
 
 ghost use Rattle.std.specs.Prelude.{◌≤◌, length};
 
 use effect::Verdict;
+pub use input::{fill, inside};
 use text::{put, put_cells};
 
 // Room for the longest answer: `succeeds `, and 64 cells of six digits with commas between them.
@@ -20,10 +22,9 @@ const OPERATION: usize = 512;
 pub fn answer(line: &[u8], out: &mut [u8]) -> usize
     ensures { result ≤ length out.new }
 {
-    let space = bytes::scan::find(line, 0, line.len(), b' ');
-    if line.len() <= space {
+    let Some(space) = line.iter().position(|b| *b == b' ') else {
         return put(b"unreadable", out, 0);
-    }
+    };
     let given = cells::read(&line[..space]);
     let mut op = [0u8; OPERATION];
     let spelt = hex::read(&line[space + 1..], &mut op);
