@@ -43,9 +43,12 @@ fn tally(rt: &impl Print, line: &[u8]) -> io::Result<u64>
 fn tally_all(rt: &impl Print, name: &str, text: &[u8]) -> io::Result<()> {
     let mut lines: u64 = 0;
     let mut agree: u64 = 0;
-    for line in text.split_inclusive(|b| *b == b'\n') {
-        agree += tally(rt, trial::inside(line))?;
+    let mut at = 0;
+    while at < text.len() {
+        let end = trial::line_end(text, at);
+        agree += tally(rt, &text[at..end])?;
         lines += 1;
+        at = end + 1;
     }
     println!(rt; "{name}: {agree} agree, {} differ", lines - agree)
 }

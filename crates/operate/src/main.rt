@@ -19,8 +19,11 @@ fn show(rt: &impl Print, line: &[u8]) -> io::Result<()> {
 
 // Shows each line of the input, the last with or without its end.
 fn show_all(rt: &impl Print, text: &[u8]) -> io::Result<()> {
-    for line in text.split_inclusive(|b| *b == b'\n') {
-        show(rt, trial::inside(line))?;
+    let mut at = 0;
+    while at < text.len() {
+        let end = trial::line_end(text, at);
+        show(rt, &text[at..end])?;
+        at = end + 1;
     }
     Ok(())
 }

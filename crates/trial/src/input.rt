@@ -18,7 +18,13 @@ pub fn fill(input: &mut impl Read, buf: &mut [u8]) -> io::Result<usize>
     Ok(done)
 }
 
-// A line without its end.
-pub fn inside(line: &[u8]) -> &[u8] {
-    line.strip_suffix(b"\n").unwrap_or(line)
+// Where the line of `text` that begins at `at` ends: at the first end of line from there on, or at the end of the text.
+pub fn line_end(text: &[u8], at: usize) -> usize
+    requires { at ≤ length text.now }
+    ensures { (at ≤ result) × (result ≤ length text.now) }
+{
+    match text[at..].iter().position(|b| *b == b'\n') {
+        Some(n) => at + n,
+        None => text.len(),
+    }
 }

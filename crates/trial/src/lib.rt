@@ -9,7 +9,7 @@ mod text;
 ghost use Rattle.std.specs.Prelude.{◌≤◌, length};
 
 use effect::Verdict;
-pub use input::{fill, inside};
+pub use input::{fill, line_end};
 use text::{put, put_cells};
 
 // Room for the longest answer: `succeeds `, and 64 cells of six digits with commas between them.
