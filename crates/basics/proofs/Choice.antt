@@ -1,7 +1,7 @@
 -- Laws of choice by a test. Assumes nothing.
 use mathlib.Core.Bool.{Bool, true, false, ◌&&◌, false≢true}
 use mathlib.Core.Path.{◌≡◌, refl}
-use Rattle.basics.specs.Choice.{if◌then◌else◌}
+use Rattle.std.specs.Prelude.{if◌then◌else◌}
 
 -- what holds of each of two values by the test's answer holds of the one chosen
 pub by_cases :

@@ -7,7 +7,7 @@ use mathlib.Core.Path.{◌≡◌}
 use lib.Dec.{ltb, leb, eqb}
 use lib.ListN.{length, get_or}
 use borrow.Author.Tests.{le-ltb, leb-true, eqb-true}
-use Rattle.basics.specs.Choice.{if◌then◌else◌}
+use Rattle.std.specs.Prelude.{if◌then◌else◌}
 use Rattle.basics.specs.Counts.{count_at, counts}
 use Rattle.basics.proofs.Every.{every_at}
 

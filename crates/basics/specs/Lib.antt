@@ -1,5 +1,4 @@
 -- General definitions, each of which several crates cite.
-pub mod Choice
 pub mod Every
 pub mod Counts
 pub mod Sums

@@ -2,7 +2,7 @@
 #![tactic(auto)]
 
 ghost use Rattle.std.specs.Prelude.{◌≡◌, drop, ltb, leb, eqb, true};
-ghost use Rattle.basics.specs.Choice.{if◌then◌else◌};
+ghost use Rattle.std.specs.Prelude.{if◌then◌else◌};
 ghost use Rattle.basics.specs.Answers.{number_of};
 ghost use Rattle.basics.specs.Counts.{counts, zeros_from};
 

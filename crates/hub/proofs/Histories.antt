@@ -12,7 +12,7 @@ use lib.ListN.{length, get_or, set, length-append, length-set, get_or-append}
 use lib.Seq.{get_or-set_same, get_or-set_other, get_or-append_seam, take-append-le, take-append_seam}
 use borrow.Author.Tests.{eq-eqb, ne_eqb, ltb-true, ltb-false, not-false}
 use Rattle.basics.specs.Answers.{number_of}
-use Rattle.basics.specs.Choice.{if◌then◌else◌}
+use Rattle.std.specs.Prelude.{if◌then◌else◌}
 use Rattle.basics.specs.declared.Answer.{Answer}
 use Rattle.basics.specs.declared.Answer.TheVariants.{Done}
 use Rattle.basics.proofs.Choice.{by_cases, and_both}

@@ -1,6 +1,6 @@
 -- Copy for a machine. Refusals in the paper's order: 1, 9, 8. Assumes nothing: these are definitions.
 use Rattle.std.specs.Prelude.{ℕ, not, ◌&&◌, List, ltb, leb, length}
-use Rattle.basics.specs.Choice.{if◌then◌else◌}
+use Rattle.std.specs.Prelude.{if◌then◌else◌}
 use Rattle.basics.specs.Over.{over}
 use Rattle.basics.specs.declared.Answer.{Answer}
 use Rattle.basics.specs.declared.Answer.TheVariants.{Done, OutOfShape, OutOfRange, BufferTooShort}
@@ -21,8 +21,8 @@ copied h machine = record { answer = Done; position = decided h; decided = next_
 unfoldable pub copy_known : Limits → Hub → ℕ → ℕ → Copied
 copy_known l h machine room =
     if leb h.machines machine then not_copied OutOfRange
-    else if ltb room l.cells then not_copied BufferTooShort
-    else copied h machine
+    else (if ltb room l.cells then not_copied BufferTooShort
+    else copied h machine)
 
 unfoldable pub copy_of : Limits → Hub → ℕ → ℕ → Copied
 copy_of l h machine room = if not (shaped l h) then not_copied OutOfShape else copy_known l h machine room

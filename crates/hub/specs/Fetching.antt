@@ -1,6 +1,6 @@
 -- Fetch record n. Refusals in the paper's order: 1, 14, 15, 8. Assumes nothing: these are definitions.
 use Rattle.std.specs.Prelude.{ℕ, ◌+◌, Bool, not, ◌&&◌, List, ltb, leb, length}
-use Rattle.basics.specs.Choice.{if◌then◌else◌}
+use Rattle.std.specs.Prelude.{if◌then◌else◌}
 use Rattle.basics.specs.Over.{over}
 use Rattle.basics.specs.declared.Answer.{Answer}
 use Rattle.basics.specs.declared.Answer.TheVariants.{Done, OutOfShape, NotDecided, NotKept, BufferTooShort}
@@ -21,9 +21,9 @@ fetched r = record { answer = Done; machine = r.machine; number = r.number; len 
 unfoldable pub fetch_known : Limits → Hub → ℕ → ℕ → Fetched
 fetch_known l h n room =
     if leb (decided h) n then not_fetched NotDecided
-    else if ltb (n + most_kept) (decided h) then not_fetched NotKept
-    else if ltb room l.bytes then not_fetched BufferTooShort
-    else fetched (record_at h.records n)
+    else (if ltb (n + most_kept) (decided h) then not_fetched NotKept
+    else (if ltb room l.bytes then not_fetched BufferTooShort
+    else fetched (record_at h.records n)))
 
 unfoldable pub fetch_of : Limits → Hub → ℕ → ℕ → Fetched
 fetch_of l h n room = if not (shaped l h) then not_fetched OutOfShape else fetch_known l h n room

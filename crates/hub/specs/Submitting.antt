@@ -1,6 +1,6 @@
 -- Submit. Refusals in the paper's order: 1, 9, 2, 10, 11. Assumes nothing: these are definitions.
 use Rattle.std.specs.Prelude.{ℕ, ◌+◌, ◌%◌, ◌≤◌, ◌<◌, true, not, ◌&&◌, List, ◌≡◌, ltb, length, set}
-use Rattle.basics.specs.Choice.{if◌then◌else◌}
+use Rattle.std.specs.Prelude.{if◌then◌else◌}
 use Rattle.basics.specs.Counts.{counts}
 use Rattle.basics.specs.declared.Answer.{Answer}
 use Rattle.basics.specs.declared.Answer.TheVariants.{Done, OutOfShape, OutOfRange, Malformed, Old, Early}
@@ -39,15 +39,15 @@ taken l h machine number op came = record {
 unfoldable pub submit_known : Limits → Hub → ℕ → ℕ → List ℕ → Submitted
 submit_known l h machine number op =
     if ltb number (next_of h machine) then not_submitted Old h
-    else if ltb (next_of h machine) number then not_submitted Early h
-    else taken l h machine number op (ran l h op)
+    else (if ltb (next_of h machine) number then not_submitted Early h
+    else taken l h machine number op (ran l h op))
 
 unfoldable pub submit_of : Limits → Hub → ℕ → ℕ → List ℕ → Submitted
 submit_of l h machine number op =
     if not (shaped l h) then not_submitted OutOfShape h
-    else if not (ltb machine h.machines && ltb number most_issued) then not_submitted OutOfRange h
-    else if not (well_formed l h.width op) then not_submitted Malformed h
-    else submit_known l h machine number op
+    else (if not (ltb machine h.machines && ltb number most_issued) then not_submitted OutOfRange h
+    else (if not (well_formed l h.width op) then not_submitted Malformed h
+    else submit_known l h machine number op))
 
 -- what the code that takes a submission is handed
 pub record Takes (l : Limits) (h : Hub) (machine number : ℕ) (op : List ℕ) : Type 0 where

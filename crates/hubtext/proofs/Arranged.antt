@@ -7,7 +7,7 @@ use mathlib.Core.Path.{◌≡◌, refl, sym, ap, subst, ◌∙◌}
 use lib.Dec.{ltb, eqb}
 use lib.ListN.{length}
 use borrow.Author.Tests.{ne_eqb, lt-ltb, le-ltb}
-use Rattle.basics.specs.Choice.{if◌then◌else◌}
+use Rattle.std.specs.Prelude.{if◌then◌else◌}
 use Rattle.operation.specs.Limits.{Limits}
 use Rattle.lines.specs.Texts.{Chain, start, step}
 use Rattle.hub.specs.History.{Decision}
@@ -33,8 +33,8 @@ use Rattle.hubtext.proofs.Reached.{reached}
 -- the key of line i, where there are w cells
 unfoldable pub key_at : ℕ → ℕ → List ℕ
 key_at w i =
-    if eqb i 0 then form= else if eqb i 1 then machines= else if eqb i 2 then cells= else if ltb i (3 + w) then cell=
-    else next=
+    if eqb i 0 then form= else (if eqb i 1 then machines= else (if eqb i 2 then cells= else (if ltb i (3 + w) then cell=
+    else next=)))
 
 -- numbers with their keys, from line i on
 unfoldable pub keyed : ℕ → ℕ → List ℕ → List Value

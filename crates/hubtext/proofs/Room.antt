@@ -9,7 +9,7 @@ use mathlib.Core.Path.{◌≡◌, refl}
 use lib.Dec.{eqb}
 use lib.ListN.{length, get_or}
 use borrow.Author.Tests.{ne_eqb, eqb-true}
-use Rattle.basics.specs.Choice.{if◌then◌else◌}
+use Rattle.std.specs.Prelude.{if◌then◌else◌}
 use Rattle.basics.specs.Sums.{sum_to}
 use Rattle.state.specs.Numbers.{most_machines}
 use Rattle.hub.specs.Ring.{total}

@@ -1,6 +1,6 @@
 -- How the hub's text is read. Assumes nothing: these are definitions.
 use Rattle.std.specs.Prelude.{ℕ, suc, ◌+◌, ◌-◌, ◌%◌, Bool, true, false, ◌&&◌, List, [], ◌∷◌, ltb, eqb, length, get_or, set, replicate}
-use Rattle.basics.specs.Choice.{if◌then◌else◌}
+use Rattle.std.specs.Prelude.{if◌then◌else◌}
 use Rattle.basics.specs.Over.{over}
 use Rattle.operation.specs.Limits.{Limits}
 use Rattle.operation.specs.Reading.{well_formed}
@@ -37,12 +37,12 @@ module _ (l : Limits) where
   unfoldable pub want : List ℕ → ℕ → Want
   want ns records =
       if eqb (length ns) 0 then field_line form= 1 1
-      else if eqb (length ns) 1 then field_line machines= 1 most_machines
-      else if eqb (length ns) 2 then field_line cells= 1 l.cells
-      else if ltb (length ns) (3 + width_in ns) then field_line cell= 0 l.held
-      else if ltb (length ns) (3 + width_in ns + machines_in ns) then field_line next= 0 most_issued
-      else if ltb records (kept_count (total (nexts_in ns))) then record_line
-      else no_line
+      else (if eqb (length ns) 1 then field_line machines= 1 most_machines
+      else (if eqb (length ns) 2 then field_line cells= 1 l.cells
+      else (if ltb (length ns) (3 + width_in ns) then field_line cell= 0 l.held
+      else (if ltb (length ns) (3 + width_in ns + machines_in ns) then field_line next= 0 most_issued
+      else (if ltb records (kept_count (total (nexts_in ns))) then record_line
+      else no_line)))))
 
   -- a record may come where its machine has fewer so far than its next, and its operation is well formed
   unfoldable pub fits : List ℕ → List Decision → Decision → Bool

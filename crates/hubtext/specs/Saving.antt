@@ -1,6 +1,6 @@
 -- Writing the hub's text into a lent buffer. Refusals in the paper's order: 1, 8. Assumes nothing: these are definitions.
 use Rattle.std.specs.Prelude.{ℕ, not, ◌&&◌, List, ltb, leb, length}
-use Rattle.basics.specs.Choice.{if◌then◌else◌}
+use Rattle.std.specs.Prelude.{if◌then◌else◌}
 use Rattle.basics.specs.Over.{over}
 use Rattle.basics.specs.declared.Answer.{Answer}
 use Rattle.basics.specs.declared.Answer.TheVariants.{Done, OutOfShape, BufferTooShort}
@@ -23,8 +23,8 @@ not_written answer = record { answer = answer; len = 0 }
 unfoldable pub write_of : Limits → Hub → ℕ → Written
 write_of l h room =
     if not (shaped l h) then not_written OutOfShape
-    else if ltb room (length (hub_text l h)) then not_written BufferTooShort
-    else record { answer = Done; len = length (hub_text l h) }
+    else (if ltb room (length (hub_text l h)) then not_written BufferTooShort
+    else record { answer = Done; len = length (hub_text l h) })
 
 -- the lent buffer after it: the text from its start where nothing is refused; bytes after the text are unchanged
 unfoldable pub written_into : Limits → Hub → List ℕ → List ℕ

@@ -9,7 +9,7 @@ use lib.Dec.{leb}
 use lib.ListN.{length, drop, get_or, drop_of_length-le}
 use lib.Seq.{drop-cons, drop-length}
 use borrow.Author.Tests.{le-leb}
-use Rattle.basics.specs.Choice.{if◌then◌else◌}
+use Rattle.std.specs.Prelude.{if◌then◌else◌}
 use Rattle.lines.specs.Fields.{got, wrong, digits, number, field}
 use Rattle.lines.specs.Steps.{InRange, field_as, resume, go_on, Kept, StepKept}
 use Rattle.lines.specs.declared.Field.{Field}

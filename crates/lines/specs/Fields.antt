@@ -1,6 +1,6 @@
 -- How the parts of a line are written, and read back. Assumes nothing: these are definitions.
 use Rattle.std.specs.Prelude.{ℕ, zero, suc, ◌+◌, ◌-◌, ◌*◌, ◌&&◌, List, [], ◌∷◌, ◌++◌, ltb, leb, eqb}
-use Rattle.basics.specs.Choice.{if◌then◌else◌}
+use Rattle.std.specs.Prelude.{if◌then◌else◌}
 use Rattle.lines.specs.Decimals.{decimal}
 use Rattle.lines.specs.Hex.{is_hex, hex_value}
 
@@ -21,9 +21,9 @@ unfoldable pub digits : ℕ → ℕ → ℕ → List ℕ → Read ℕ
 digits top end v [] = wrong
 digits top end v (b ∷ t) =
     if eqb b end then got v t
-    else if leb 48 b && (leb b 57 && (ltb 0 v && leb (v * 10 + (b - 48)) top))
+    else (if leb 48 b && (leb b 57 && (ltb 0 v && leb (v * 10 + (b - 48)) top))
     then digits top end (v * 10 + (b - 48)) t
-    else wrong
+    else wrong)
 
 -- a number from low (0 or 1) to top, and its end
 unfoldable pub number : ℕ → ℕ → ℕ → List ℕ → Read ℕ
@@ -49,5 +49,5 @@ hex_line zero (a ∷ t) = if eqb a LF then got [] t else wrong
 hex_line (suc k) (a ∷ []) = if eqb a LF then got [] [] else wrong
 hex_line (suc k) (a ∷ b ∷ t) =
     if eqb a LF then got [] (b ∷ t)
-    else if is_hex a && is_hex b then and_byte (hex_value a * 16 + hex_value b) (hex_line k t)
-    else wrong
+    else (if is_hex a && is_hex b then and_byte (hex_value a * 16 + hex_value b) (hex_line k t)
+    else wrong)

@@ -1,6 +1,6 @@
 -- Ask for waiting operation j. Refusals in the paper's order: 1, 7, 8. Assumes nothing: these are definitions.
 use Rattle.std.specs.Prelude.{ℕ, ◌+◌, not, ◌&&◌, List, ltb, leb, length, get_or}
-use Rattle.basics.specs.Choice.{if◌then◌else◌}
+use Rattle.std.specs.Prelude.{if◌then◌else◌}
 use Rattle.basics.specs.Over.{over}
 use Rattle.basics.specs.declared.Answer.{Answer}
 use Rattle.basics.specs.declared.Answer.TheVariants.{Done, OutOfShape, NoSuchWaiting, BufferTooShort}
@@ -22,8 +22,8 @@ waiting_at m j = get_or m.queue j nothing
 unfoldable pub ask_known : Limits → Machine → ℕ → ℕ → Asked
 ask_known l m j room =
     if leb m.waiting j then not_asked NoSuchWaiting
-    else if ltb room l.bytes then not_asked BufferTooShort
-    else record { answer = Done; number = m.done + j; len = (waiting_at m j).len }
+    else (if ltb room l.bytes then not_asked BufferTooShort
+    else record { answer = Done; number = m.done + j; len = (waiting_at m j).len })
 
 unfoldable pub ask_of : Limits → Machine → ℕ → ℕ → Asked
 ask_of l m j room = if not (shaped l m) then not_asked OutOfShape else ask_known l m j room

@@ -1,6 +1,6 @@
 -- Take a fresh copy. Refusals in the paper's order: 1, 13, 10, 12. Assumes nothing: these are definitions.
 use Rattle.std.specs.Prelude.{ℕ, ◌+◌, ◌-◌, Bool, not, ◌&&◌, List, ltb, leb, eqb, length}
-use Rattle.basics.specs.Choice.{if◌then◌else◌}
+use Rattle.std.specs.Prelude.{if◌then◌else◌}
 use Rattle.basics.specs.Counts.{counts}
 use Rattle.basics.specs.declared.Answer.{Answer}
 use Rattle.basics.specs.declared.Answer.TheVariants.{Done, OutOfShape, BadCopy, Old, NotAsIssued}
@@ -49,12 +49,12 @@ copy_good l m position cells decided =
 unfoldable pub copy_known : Limits → Machine → ℕ → List ℕ → ℕ → Copied
 copy_known l m position cells decided =
     if leb position m.position then not_copied Old m
-    else if ltb decided m.done then not_copied NotAsIssued m
-    else if ltb m.issued decided then not_copied NotAsIssued m
-    else copied l m position (filled l cells) (decided - m.done)
+    else (if ltb decided m.done then not_copied NotAsIssued m
+    else (if ltb m.issued decided then not_copied NotAsIssued m
+    else copied l m position (filled l cells) (decided - m.done)))
 
 unfoldable pub copy_of : Limits → Machine → ℕ → List ℕ → ℕ → Copied
 copy_of l m position cells decided =
     if not (shaped l m) then not_copied OutOfShape m
-    else if not (copy_good l m position cells decided) then not_copied BadCopy m
-    else copy_known l m position cells decided
+    else (if not (copy_good l m position cells decided) then not_copied BadCopy m
+    else copy_known l m position cells decided)

@@ -1,7 +1,7 @@
 -- Issue. Refusals in the paper's order: 1, 2, 3, 4, 5. Assumes nothing: these are definitions.
 use Rattle.std.specs.Prelude.{ℕ, ◌+◌, not, List, leb, set}
 use Rattle.std.proofs.Math.Option.{Option, some, none}
-use Rattle.basics.specs.Choice.{if◌then◌else◌}
+use Rattle.std.specs.Prelude.{if◌then◌else◌}
 use Rattle.basics.specs.declared.Answer.{Answer}
 use Rattle.basics.specs.declared.Answer.TheVariants.{
   Done,
@@ -55,11 +55,11 @@ sold_on l m op none = not_issued FailsOnGuess m
 unfoldable pub issue_known : Limits → Machine → List ℕ → Issued
 issue_known l m op =
     if leb most_queued m.waiting then not_issued QueueFull m
-    else if leb most_issued m.issued then not_issued AllIssued m
-    else sold_on l m op (outcome l m.width op m.guess)
+    else (if leb most_issued m.issued then not_issued AllIssued m
+    else sold_on l m op (outcome l m.width op m.guess))
 
 unfoldable pub issue_of : Limits → Machine → List ℕ → Issued
 issue_of l m op =
     if not (shaped l m) then not_issued OutOfShape m
-    else if not (well_formed l m.width op) then not_issued Malformed m
-    else issue_known l m op
+    else (if not (well_formed l m.width op) then not_issued Malformed m
+    else issue_known l m op)

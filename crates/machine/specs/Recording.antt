@@ -1,6 +1,6 @@
 -- Take a record. Refusals in the paper's order: 1, 9, 2, 10, 11, 12. Assumes nothing: these are definitions.
 use Rattle.std.specs.Prelude.{ℕ, ◌+◌, ◌-◌, Bool, not, ◌&&◌, List, ltb, eqb, get_or}
-use Rattle.basics.specs.Choice.{if◌then◌else◌}
+use Rattle.std.specs.Prelude.{if◌then◌else◌}
 use Rattle.basics.specs.declared.Answer.{Answer}
 use Rattle.basics.specs.declared.Answer.TheVariants.{
   Done,
@@ -83,14 +83,14 @@ as_issued m number op =
 unfoldable pub record_known : Limits → Machine → ℕ → ℕ → ℕ → List ℕ → Taken
 record_known l m n who number op =
     if ltb n m.position then not_taken Old m
-    else if ltb m.position n then not_taken Early m
-    else if not (eqb who m.me) then other_taken l m (ran_agreed l m op).cells
-    else if as_issued m number op then own_taken l m (ran_agreed l m op)
-    else not_taken NotAsIssued m
+    else (if ltb m.position n then not_taken Early m
+    else (if not (eqb who m.me) then other_taken l m (ran_agreed l m op).cells
+    else (if as_issued m number op then own_taken l m (ran_agreed l m op)
+    else not_taken NotAsIssued m)))
 
 unfoldable pub record_of : Limits → Machine → ℕ → ℕ → ℕ → List ℕ → Taken
 record_of l m n who number op =
     if not (shaped l m) then not_taken OutOfShape m
-    else if not (ltb who m.machines && (ltb number most_issued && ltb n most_decided)) then not_taken OutOfRange m
-    else if not (well_formed l m.width op) then not_taken Malformed m
-    else record_known l m n who number op
+    else (if not (ltb who m.machines && (ltb number most_issued && ltb n most_decided)) then not_taken OutOfRange m
+    else (if not (well_formed l m.width op) then not_taken Malformed m
+    else record_known l m n who number op))

@@ -9,7 +9,7 @@ use lib.Seq.{take-length, take-append_seam}
 use borrow.Author.Tests.{le-ltb, eq-eqb, eqb-true, ltb-false}
 use Rattle.basics.specs.Over.{over}
 use Rattle.basics.specs.Counts.{zero_at, zeros_from}
-use Rattle.basics.specs.Choice.{if◌then◌else◌}
+use Rattle.std.specs.Prelude.{if◌then◌else◌}
 use Rattle.basics.proofs.Choice.{and_both}
 use Rattle.basics.proofs.Every.{every_all}
 use Rattle.basics.proofs.Over.{all_zero, over_past}

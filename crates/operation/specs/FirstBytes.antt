@@ -1,6 +1,6 @@
 -- What the first bytes of an operation say. Assumes nothing: these are definitions.
 use Rattle.std.specs.Prelude.{ℕ, ◌+◌, ◌*◌, not, ◌&&◌, List, ltb, leb, eqb, length, get_or}
-use Rattle.basics.specs.Choice.{if◌then◌else◌}
+use Rattle.std.specs.Prelude.{if◌then◌else◌}
 use Rattle.operation.specs.Limits.{Limits}
 use Rattle.operation.specs.declared.Plain.{Plain}
 use Rattle.operation.specs.declared.Plain.TheVariants.{Need, Put, Draw, Move}
@@ -49,10 +49,10 @@ module _ (l : Limits) (width : ℕ) where
   unfoldable pub kind_of : List ℕ → Kind
   kind_of s =
       if eqb (length s) 0 then Malformed
-      else if eqb (byte s 0) 0x01 then plain_of Need (fields_at s 1)
-      else if eqb (byte s 0) 0x02 then plain_of Put (fields_at s 1)
-      else if eqb (byte s 0) 0x03 then plain_of Draw (fields_at s 1)
-      else if eqb (byte s 0) 0x04 then move_of s
-      else if eqb (byte s 0) 0x10 then atomic_of l s
-      else if eqb (byte s 0) 0x11 then Orelse
-      else Malformed
+      else (if eqb (byte s 0) 0x01 then plain_of Need (fields_at s 1)
+      else (if eqb (byte s 0) 0x02 then plain_of Put (fields_at s 1)
+      else (if eqb (byte s 0) 0x03 then plain_of Draw (fields_at s 1)
+      else (if eqb (byte s 0) 0x04 then move_of s
+      else (if eqb (byte s 0) 0x10 then atomic_of l s
+      else (if eqb (byte s 0) 0x11 then Orelse
+      else Malformed))))))
