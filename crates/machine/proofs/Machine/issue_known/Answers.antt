@@ -9,14 +9,16 @@ use borrow.Author.Rules.{rules}
 use Rattle.machine.proofs.Machine.issue_known.Goals as goal
 
 pub returns-then-self-ge-QUEUE : goal.returns-then-self-ge-QUEUE
-returns-then-self-ge-QUEUE c = let p = issue_known_leaves limits c.args.self c.args.op.now (search rules) c.requires.0 c.requires.1 _
-    (c.not_issued.ensures ∙ known_full limits _ _ (omega arith)) in
-    record { value = p.0; machine_value = p.1 }
+returns-then-self-ge-QUEUE c = record {
+  value = search rules ∙ known_full limits _ _ (omega arith);
+  machine_value = search rules;
+}
 
 pub returns-then-self-ge-ISSUED : goal.returns-then-self-ge-ISSUED
-returns-then-self-ge-ISSUED c = let p = issue_known_leaves limits c.args.self c.args.op.now (search rules) c.requires.0 c.requires.1 _
-    (c.not_issued-then-self-ge-ISSUED.ensures ∙ known_all limits _ _ (omega arith) (omega arith)) in
-    record { value = p.0; machine_value = p.1 }
+returns-then-self-ge-ISSUED c = record {
+  value = search rules ∙ known_all limits _ _ (omega arith) (omega arith);
+  machine_value = search rules;
+}
 
 pub returns-then-not-run_known : goal.returns-then-not-run_known
 returns-then-not-run_known c = let p = issue_known_leaves limits c.args.self c.args.op.now (search rules) c.requires.0 c.requires.1 _
