@@ -4,7 +4,10 @@ use hub::Hub;
 use std::io;
 
 pub fn walk(rt: &impl Print) -> io::Result<()> {
-    report::words(rt, b"Copy: 1 out of shape, 9 machine not below machines, 8 lent buffer too short\n")?;
+    report::words(
+        rt,
+        b"Copy: 1 out of shape, 9 machine not below machines, 8 lent buffer too short\n",
+    )?;
     let h = hubs::after(4);
     in_66(rt, b"done, for machine 0", h, 0)?;
     in_64(rt, b"done, for machine 2, in 64 numbers", h, 2)?;

@@ -7,7 +7,10 @@ use hub::{Hub, Record};
 use std::io;
 
 pub fn walk(rt: &impl Print) -> io::Result<()> {
-    report::words(rt, b"Good shape, and each way out of it: the answers of all three calls\n")?;
+    report::words(
+        rt,
+        b"Good shape, and each way out of it: the answers of all three calls\n",
+    )?;
     tried(rt, b"in shape", hubs::after(4))?;
     tried(rt, b"in shape, the ring turned", hubs::after(260))?;
     sizes(rt)?;
@@ -82,21 +85,37 @@ fn numbers(rt: &impl Print) -> io::Result<()> {
         changed(h, 3, 0, 0, 4, 0, 2),
     )?;
     tried(rt, b"two records of a machine changed about", swapped(h))?;
-    tried(rt, b"a record of another machine", changed(h, 3, 1, 1, 4, 0, 2))?;
+    tried(
+        rt,
+        b"a record of another machine",
+        changed(h, 3, 1, 1, 4, 0, 2),
+    )?;
     tried(
         rt,
         b"a record of a machine not below machines",
         changed(h, 3, 3, 1, 4, 0, 2),
     )?;
-    tried(rt, b"a record of machine 255", changed(h, 3, 255, 1, 4, 0, 2))
+    tried(
+        rt,
+        b"a record of machine 255",
+        changed(h, 3, 255, 1, 4, 0, 2),
+    )
 }
 
 fn operations(rt: &impl Print) -> io::Result<()> {
     let h = hubs::after(4);
     tried(rt, b"a malformed operation", changed(h, 3, 0, 1, 4, 0, 9))?;
     tried(rt, b"an operation of no byte", changed(h, 3, 0, 1, 0, 0, 2))?;
-    tried(rt, b"an operation of 49 bytes", changed(h, 3, 0, 1, 49, 0, 2))?;
-    tried(rt, b"a byte past an operation", changed(h, 3, 0, 1, 4, 47, 1))
+    tried(
+        rt,
+        b"an operation of 49 bytes",
+        changed(h, 3, 0, 1, 49, 0, 2),
+    )?;
+    tried(
+        rt,
+        b"a byte past an operation",
+        changed(h, 3, 0, 1, 4, 47, 1),
+    )
 }
 
 fn past(rt: &impl Print) -> io::Result<()> {

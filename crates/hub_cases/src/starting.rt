@@ -3,7 +3,10 @@ use hub::Hub;
 use std::io;
 
 pub fn walk(rt: &impl Print) -> io::Result<()> {
-    report::words(rt, b"Fresh hub: 17 if a size or a first count is out of range\n")?;
+    report::words(
+        rt,
+        b"Fresh hub: 17 if a size or a first count is out of range\n",
+    )?;
     let one = [999_999u32];
     tried(rt, b"1 machine, count 999999", 1, &one)?;
     let most = [7u32; 64];

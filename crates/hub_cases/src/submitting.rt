@@ -4,7 +4,10 @@ use hub::Hub;
 use std::io;
 
 pub fn walk(rt: &impl Print) -> io::Result<()> {
-    report::words(rt, b"Submit: 1 out of shape, 9 out of range, 2 malformed, 10 old, 11 early\n")?;
+    report::words(
+        rt,
+        b"Submit: 1 out of shape, 9 out of range, 2 malformed, 10 old, 11 early\n",
+    )?;
     report::words(rt, b"  (10 and 11 cannot both be there)\n")?;
     taken(rt)?;
     refused(rt)
@@ -34,7 +37,14 @@ fn refused(rt: &impl Print) -> io::Result<()> {
     tried(rt, b"2", h, 1, 1, b"\x05")?;
     tried(rt, b"2 and 10", h, 1, 0, b"\x05")?;
     tried(rt, b"2 and 11", h, 1, 2, b"\x05")?;
-    tried(rt, b"10 with the bytes decided", h, 1, 0, b"\x02\x01\x00\x01")?;
+    tried(
+        rt,
+        b"10 with the bytes decided",
+        h,
+        1,
+        0,
+        b"\x02\x01\x00\x01",
+    )?;
     tried(rt, b"10 with others", h, 1, 0, b"\x10\x00")?;
     tried(
         rt,
@@ -48,7 +58,14 @@ fn refused(rt: &impl Print) -> io::Result<()> {
 }
 
 // The line of one submission.
-fn tried(rt: &impl Print, what: &[u8], h: Hub, machine: usize, number: u64, op: &[u8]) -> io::Result<()> {
+fn tried(
+    rt: &impl Print,
+    what: &[u8],
+    h: Hub,
+    machine: usize,
+    number: u64,
+    op: &[u8],
+) -> io::Result<()> {
     report::case(rt, what)?;
     let submitted = h.submit(machine, number, op);
     let answer = submitted.answer;

@@ -20,7 +20,14 @@ pub fn walk(rt: &impl Print) -> io::Result<()> {
     tried(rt, b"13 by a cell too few", m, 8, &cells[..1], 3)?;
     tried(rt, b"13 by a cell too many", m, 8, &cells, 3)?;
     tried(rt, b"13 by a cell of 1000000", m, 8, &large, 3)?;
-    tried(rt, b"13 by what is decided", m, 8, &cells[..2], 1_000_000_001)?;
+    tried(
+        rt,
+        b"13 by what is decided",
+        m,
+        8,
+        &cells[..2],
+        1_000_000_001,
+    )?;
     tried(rt, b"13 and 10", m, 7, &cells, 3)?;
     tried(rt, b"10 by the same position", m, 7, &cells[..2], 3)?;
     tried(rt, b"10 by a lower one", m, 6, &cells[..2], 3)?;
@@ -30,7 +37,14 @@ pub fn walk(rt: &impl Print) -> io::Result<()> {
 }
 
 // The line of one copy.
-fn tried(rt: &impl Print, what: &[u8], m: Machine, position: u64, cells: &[u32], decided: u64) -> io::Result<()> {
+fn tried(
+    rt: &impl Print,
+    what: &[u8],
+    m: Machine,
+    position: u64,
+    cells: &[u32],
+    decided: u64,
+) -> io::Result<()> {
     report::case(rt, what)?;
     let copied = m.take_copy(position, cells, decided);
     let answer = copied.answer;

@@ -47,7 +47,15 @@ fn taken(rt: &impl Print) -> io::Result<()> {
 fn refused(rt: &impl Print) -> io::Result<()> {
     let m = machines::busy();
     tried(rt, b"1", machines::out_of_shape(m), 7, 0, 0, b"\x10\x00")?;
-    tried(rt, b"1 and 9", machines::out_of_shape(m), 7, 3, 0, b"\x10\x00")?;
+    tried(
+        rt,
+        b"1 and 9",
+        machines::out_of_shape(m),
+        7,
+        3,
+        0,
+        b"\x10\x00",
+    )?;
     tried(rt, b"9 by the machine", m, 7, 3, 0, b"\x10\x00")?;
     tried(
         rt,
@@ -111,7 +119,15 @@ fn not_as_issued(rt: &impl Print) -> io::Result<()> {
 }
 
 // The line of one record.
-fn tried(rt: &impl Print, what: &[u8], m: Machine, n: u64, who: usize, number: u64, op: &[u8]) -> io::Result<()> {
+fn tried(
+    rt: &impl Print,
+    what: &[u8],
+    m: Machine,
+    n: u64,
+    who: usize,
+    number: u64,
+    op: &[u8],
+) -> io::Result<()> {
     report::case(rt, what)?;
     let taken = m.take_record(n, who, number, op);
     let answer = taken.answer;

@@ -7,7 +7,10 @@ use machine::Machine;
 use std::io;
 
 pub fn walk(rt: &impl Print) -> io::Result<()> {
-    report::words(rt, b"Good shape, and each way out of it: the answers of all five calls\n")?;
+    report::words(
+        rt,
+        b"Good shape, and each way out of it: the answers of all five calls\n",
+    )?;
     tried(rt, b"in shape", machines::busy())?;
     sizes(rt)?;
     counts(rt)?;

@@ -3,7 +3,10 @@ use machine::Machine;
 use std::io;
 
 pub fn walk(rt: &impl Print) -> io::Result<()> {
-    report::words(rt, b"Fresh state: 17 if a size, a first count or the own number is out of range\n")?;
+    report::words(
+        rt,
+        b"Fresh state: 17 if a size, a first count or the own number is out of range\n",
+    )?;
     let one = [999_999u32];
     tried(rt, b"1 machine, me 0, count 999999", 1, 0, &one)?;
     let most = [7u32; 64];
@@ -19,7 +22,13 @@ pub fn walk(rt: &impl Print) -> io::Result<()> {
 }
 
 // The line of one start. What a bad start hands back is itself out of shape.
-fn tried(rt: &impl Print, what: &[u8], machines: usize, me: usize, first: &[u32]) -> io::Result<()> {
+fn tried(
+    rt: &impl Print,
+    what: &[u8],
+    machines: usize,
+    me: usize,
+    first: &[u32],
+) -> io::Result<()> {
     report::case(rt, what)?;
     let made = Machine::fresh(machines, me, first);
     let answer = made.answer;
