@@ -1,5 +1,5 @@
 // What the programs that run trials take in.
-ghost use Rattle.std.specs.Prelude.{◌≤◌, length, IfOk};
+ghost use Rattle.std.specs.Prelude.{◌≡◌, ◌≢◌, ℕ, ◌<◌, ◌≤◌, length, slice_index, IfOk};
 
 use std::io::{self, Read};
 
@@ -21,10 +21,16 @@ pub fn fill(input: &mut impl Read, buf: &mut [u8]) -> io::Result<usize>
 // Where the line of `text` that begins at `at` ends: at the first end of line from there on, or at the end of the text.
 pub fn line_end(text: &[u8], at: usize) -> usize
     requires { at ≤ length text.now }
-    ensures { (at ≤ result) × (result ≤ length text.now) }
+    ensures within { (at ≤ result) × (result ≤ length text.now) }
+    ensures before { (k : ℕ) → at ≤ k → k < result → slice_index text.now k ≢ 10 }
+    ensures found { result < length text.now → slice_index text.now result ≡ 10 }
 {
-    match text[at..].iter().position(|b| *b == b'\n') {
-        Some(n) => at + n,
-        None => text.len(),
+    let mut end = at;
+    while end < text.len() {
+        if text[end] == b'\n' {
+            return end;
+        }
+        end += 1;
     }
+    end
 }
