@@ -7,7 +7,7 @@ mod walk;
 ghost use Rattle.std.specs.Prelude.{◌≡◌, true, ◌≤◌, length, take};
 ghost use Rattle.operation.specs.Limits.{limits};
 ghost use Rattle.operation.specs.Reading.{well_formed};
-ghost use Rattle.effect.specs.Running.{filled, did, came, outcome, bit as outcomeBit};
+ghost use Rattle.effect.specs.Running.{filled, did, came, outcome, bit as outcome_bit};
 ghost use Rattle.effect.specs.Telling.{told, tells};
 ghost use Rattle.operation.specs.Packing.{unpacked};
 ghost use Rattle.effect.specs.Replaying.{queued, replay as replayed, Ready, Sound};
@@ -46,7 +46,7 @@ pub struct Ran {
 
 // An outcome as a number: 1 where it succeeded, 0 where it failed.
 pub fn bit(ok: bool) -> u8
-    ensures { result ≡ outcomeBit ok }
+    ensures { result ≡ outcome_bit ok }
 {
     if ok { 1 } else { 0 }
 }

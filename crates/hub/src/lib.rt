@@ -128,7 +128,7 @@ impl Hub {
     pub fn submit_known(self, machine: usize, number: u64, op: &[u8]) -> Submitted
         requires { (shaped limits self ≡ true) × ((machine < self.machines) × ((number < most_issued) × (well_formed limits self.width op.now ≡ true))) }
         ensures value { result ≡ submit_known limits self machine number op.now }
-        ensures hub_value { shaped limits result.hub ≡ true }
+        ensures in_shape { shaped limits result.hub ≡ true }
     {
         let next = self.next[machine];
         if number < next {

@@ -138,7 +138,7 @@ impl Machine {
     pub fn issue_known(self, op: &[u8]) -> Issued
         requires { (shaped limits self ≡ true) × (well_formed limits self.width op.now ≡ true) }
         ensures value { result ≡ issue_known limits self op.now }
-        ensures machine_value { shaped limits result.machine ≡ true }
+        ensures in_shape { shaped limits result.machine ≡ true }
     {
         if Machine::QUEUE <= self.waiting {
             return not_issued(Answer::QueueFull, self);
@@ -166,7 +166,7 @@ impl Machine {
     pub fn note_known(self, k: usize, cell: usize) -> Noted
         requires { shaped limits self ≡ true }
         ensures value { result ≡ note_known self k cell }
-        ensures machine_value { shaped limits result.machine ≡ true }
+        ensures in_shape { shaped limits result.machine ≡ true }
     {
         if Machine::NOTES <= k {
             return not_noted(Answer::NoSuchNote, self);
@@ -235,7 +235,7 @@ impl Machine {
     pub fn take_record_known(self, n: u64, who: usize, number: u64, op: &[u8]) -> Taken
         requires { (shaped limits self ≡ true) × (well_formed limits self.width op.now ≡ true) × (n < most_decided) }
         ensures value { result ≡ record_known limits self n who number op.now }
-        ensures machine_value { shaped limits result.machine ≡ true }
+        ensures in_shape { shaped limits result.machine ≡ true }
     {
         if n < self.position {
             return not_taken(Answer::Old, self);
@@ -270,7 +270,7 @@ impl Machine {
     pub fn take_copy_known(self, position: u64, cells: &[u32], decided: u64) -> Copied
         requires { (shaped limits self ≡ true) × (copy_good limits self position cells.now decided ≡ true) }
         ensures value { result ≡ copy_known limits self position cells.now decided }
-        ensures machine_value { shaped limits result.machine ≡ true }
+        ensures in_shape { shaped limits result.machine ≡ true }
     {
         if position <= self.position {
             return not_copied(Answer::Old, self);

@@ -6,7 +6,7 @@ ghost use Rattle.basics.specs.Counts.{counts, zeros_from};
 ghost use Rattle.operation.specs.Limits.{limits};
 ghost use Rattle.operation.specs.Reading.{well_formed};
 ghost use Rattle.state.specs.Sizes.{sizes_good};
-ghost use Rattle.state.specs.Holding.{holds as holdsOne, blank as isBlank};
+ghost use Rattle.state.specs.Holding.{holds as holds_one, blank as is_blank};
 
 use basics::{are_counts, are_zeros, index};
 use effect::Cells;
@@ -45,7 +45,7 @@ pub fn cells(cells: Cells, width: usize) -> bool
 
 // Whether a place holds an operation, with zeros after its bytes.
 pub fn holds(o: Packed, width: usize) -> bool
-    ensures { result ≡ holdsOne limits width o }
+    ensures { result ≡ holds_one limits width o }
 {
     let bytes = o.bytes;
     let len = index(o.len);
@@ -68,7 +68,7 @@ fn full(bytes: [u8; BYTES], len: usize, width: usize) -> bool
 
 // Whether a place holds none: all zeros.
 pub fn blank(o: Packed) -> bool
-    ensures { result ≡ isBlank o }
+    ensures { result ≡ is_blank o }
 {
     let bytes = o.bytes;
     if o.len != 0 {

@@ -25,7 +25,7 @@ returns-then-number-next c = let p = let z : Sized c.args.self = record {
     submit_known_leaves limits c.args.self z c.args.machine c.args.op.now c.args.number c.requires.0
     c.requires.1.0 c.requires.1.1.0 c.requires.1.1.1 _
     (c.not_submitted.ensures ∙ is_old limits _ _ _ _ (omega arith)) in
-    record { value = p.0; hub_value = p.1 }
+    record { value = p.0; in_shape = p.1 }
 
 pub returns-then-next-number : goal.returns-then-next-number
 returns-then-next-number c = let p = let z : Sized c.args.self = record {
@@ -35,7 +35,7 @@ returns-then-next-number c = let p = let z : Sized c.args.self = record {
     submit_known_leaves limits c.args.self z c.args.machine c.args.op.now c.args.number c.requires.0
     c.requires.1.0 c.requires.1.1.0 c.requires.1.1.1 _
     (c.not_submitted-then-next-number.ensures ∙ is_early limits _ _ _ _ (omega arith) (omega arith)) in
-    record { value = p.0; hub_value = p.1 }
+    record { value = p.0; in_shape = p.1 }
 
 pub take-requires : goal.take-requires
 take-requires c = let g = good limits c.args.self c.requires.0 in
@@ -55,4 +55,4 @@ returns c = let p = let z : Sized c.args.self = record {
     submit_known_leaves limits c.args.self z c.args.machine c.args.op.now c.args.number c.requires.0
     c.requires.1.0 c.requires.1.1.0 c.requires.1.1.1 _
     (c.take.ensures ∙ is_next limits _ _ _ _ (omega arith) _ (omega arith) c.run_known-ran.ensures) in
-    record { value = p.0; hub_value = p.1 }
+    record { value = p.0; in_shape = p.1 }

@@ -12,19 +12,19 @@ pub returns-then-position-self : goal.returns-then-position-self
 returns-then-position-self c = let p = copy_known_leaves limits c.args.self c.args.position c.args.cells.now c.args.decided
     (search rules) c.requires.0 c.requires.1 _
     (c.not_copied.ensures ∙ copy_old limits _ _ _ _ (omega arith)) in
-    record { value = p.0; machine_value = p.1 }
+    record { value = p.0; in_shape = p.1 }
 
 pub returns-then-decided-self : goal.returns-then-decided-self
 returns-then-decided-self c = let p = copy_known_leaves limits c.args.self c.args.position c.args.cells.now c.args.decided
     (search rules) c.requires.0 c.requires.1 _
     (c.not_copied-then-decided-self.ensures ∙ copy_below limits _ _ _ _ (omega arith) (omega arith)) in
-    record { value = p.0; machine_value = p.1 }
+    record { value = p.0; in_shape = p.1 }
 
 pub returns-then-self-decided : goal.returns-then-self-decided
 returns-then-self-decided c = let p = copy_known_leaves limits c.args.self c.args.position c.args.cells.now c.args.decided
     (search rules) c.requires.0 c.requires.1 _
     (c.not_copied-then-self-decided.ensures ∙ copy_above limits _ _ _ _ (omega arith) (omega arith) (omega arith)) in
-    record { value = p.0; machine_value = p.1 }
+    record { value = p.0; in_shape = p.1 }
 
 pub cells_of-requires : goal.cells_of-requires
 cells_of-requires c = let w = (copy_facts limits c.args.self c.args.position c.args.cells.now c.args.decided
@@ -50,4 +50,4 @@ returns c = let p = copy_known_leaves limits c.args.self c.args.position c.args.
     (search rules) c.requires.0 c.requires.1 _
     (c.copy.ensures ∙ copy_done limits _ _ _ _ (omega arith) (omega arith) _ (omega arith)
     c.cells_of.ensures) in
-    record { value = p.0; machine_value = p.1 }
+    record { value = p.0; in_shape = p.1 }

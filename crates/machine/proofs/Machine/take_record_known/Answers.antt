@@ -12,13 +12,13 @@ pub returns-then-n-self : goal.returns-then-n-self
 returns-then-n-self c = let p = record_known_leaves limits c.args.self c.args.n c.args.who c.args.number c.args.op.now
     (search rules) c.requires.0 c.requires.2 _
     (c.not_taken.ensures ∙ is_old limits _ _ _ _ _ (omega arith)) in
-    record { value = p.0; machine_value = p.1 }
+    record { value = p.0; in_shape = p.1 }
 
 pub returns-then-self-n : goal.returns-then-self-n
 returns-then-self-n c = let p = record_known_leaves limits c.args.self c.args.n c.args.who c.args.number c.args.op.now
     (search rules) c.requires.0 c.requires.2 _
     (c.not_taken-then-self-n.ensures ∙ is_early limits _ _ _ _ _ (omega arith) (omega arith)) in
-    record { value = p.0; machine_value = p.1 }
+    record { value = p.0; in_shape = p.1 }
 
 pub take_other-requires : goal.take_other-requires
 take_other-requires c =
@@ -30,14 +30,14 @@ returns-then-who-self c = let p = record_known_leaves limits c.args.self c.args.
     (search rules) c.requires.0 c.requires.2 _
     (c.take_other.ensures ∙ is_other limits _ _ _ _ _ (omega arith) (omega arith) _ c.if-who-self.true
     c.run_known-ran.ensures) in
-    record { value = p.0; machine_value = p.1 }
+    record { value = p.0; in_shape = p.1 }
 
 pub returns-then-not-as_issued : goal.returns-then-not-as_issued
 returns-then-not-as_issued c = let p = record_known_leaves limits c.args.self c.args.n c.args.who c.args.number c.args.op.now
     (search rules) c.requires.0 c.requires.2 _
     (c.not_taken-then-not-as_issued.ensures ∙ is_not_issued limits _ _ _ _ _ (omega arith) (omega arith) (omega arith)
     (sym c.as_issued.ensures ∙ c.if-not-as_issued.true)) in
-    record { value = p.0; machine_value = p.1 }
+    record { value = p.0; in_shape = p.1 }
 
 pub take_own-requires : goal.take_own-requires
 take_own-requires c =
@@ -61,4 +61,4 @@ returns c = let p = record_known_leaves limits c.args.self c.args.n c.args.who c
     (c.take_own.ensures ∙ is_own limits _ _ _ _ _ (omega arith) (omega arith) (omega arith) _
     (sym c.as_issued.ensures ∙ c.if-not-as_issued.false)
     c.run_known-ran.ensures) in
-    record { value = p.0; machine_value = p.1 }
+    record { value = p.0; in_shape = p.1 }
