@@ -1,4 +1,4 @@
--- A fresh hub is in shape and has decided nothing; the all_zero one is not in shape. Assumes nothing.
+-- A fresh hub is in shape and has decided nothing; the all-zero one is not in shape. Assumes nothing.
 use Prim.Native.Nat.{ℕ, zero, suc}
 use native.Mathlib.Nat.{not-suc-le-zero}
 use native.Mathlib.Omega.{arith}

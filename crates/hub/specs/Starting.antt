@@ -21,7 +21,7 @@ started l machines width cells = record {
   records = replicate most_kept (empty_record l);
 }
 
--- the all_zero state
+-- the all-zero state
 abbrev pub zero_hub : Limits → Hub
 zero_hub l = started l 0 0 (replicate l.cells 0)
 

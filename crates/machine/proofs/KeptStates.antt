@@ -143,7 +143,7 @@ copied_good l m position cells left g sized a b k = record {
     rest : List (List ℕ)
     rest = queued (m.waiting - left) (advanced l left m.queue)
 
--- a fresh machine is in shape, and the all_zero one is not
+-- a fresh machine is in shape, and the all-zero one is not
 pub fresh_shaped :
     (l : Limits) (machines me : ℕ) (first : List ℕ) → sizes_good l machines (length first) ≡ true →
     me < machines → counts first (length first) l.held ≡ true →

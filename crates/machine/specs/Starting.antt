@@ -31,7 +31,7 @@ started l machines width me cells = record {
   notes = replicate note_count 0;
 }
 
--- the all_zero state
+-- the all-zero state
 abbrev pub zero_machine : Limits → Machine
 zero_machine l = started l 0 0 0 (replicate l.cells 0)
 
