@@ -1,6 +1,5 @@
 -- Numbers below a length, and zeros past it. Assumes nothing: these are definitions.
-use Rattle.std.specs.Prelude.{ℕ, Bool, true, List, ltb, leb, eqb, length, get_or}
-use Rattle.std.specs.Prelude.{if◌then◌else◌}
+use Rattle.std.specs.Prelude.{ℕ, Bool, true, List, ltb, leb, eqb, length, get_or, if◌then◌else◌}
 use Rattle.basics.specs.Every.{every}
 
 -- each of the first n is at most `most`, and every later one is 0

@@ -1,8 +1,7 @@
 // What several crates stand on: the answers by name, and small functions on slices and bytes.
 #![tactic(auto)]
 
-ghost use Rattle.std.specs.Prelude.{◌≡◌, drop, ltb, leb, eqb, true};
-ghost use Rattle.std.specs.Prelude.{if◌then◌else◌};
+ghost use Rattle.std.specs.Prelude.{◌≡◌, drop, ltb, leb, eqb, true, if◌then◌else◌};
 ghost use Rattle.basics.specs.Answers.{number_of};
 ghost use Rattle.basics.specs.Counts.{counts, zeros_from};
 

@@ -1,7 +1,6 @@
 -- What an operation does to the cells. Assumes nothing: these are definitions.
-use Rattle.std.specs.Prelude.{ℕ, ◌+◌, ◌-◌, Bool, true, false, ◌&&◌, List, leb, length, get_or, set, replicate}
+use Rattle.std.specs.Prelude.{ℕ, ◌+◌, ◌-◌, Bool, true, false, ◌&&◌, List, leb, length, get_or, set, replicate, if◌then◌else◌}
 use Rattle.std.proofs.Math.Option.{Option, some, none, bind, or_else}
-use Rattle.std.specs.Prelude.{if◌then◌else◌}
 use Rattle.basics.specs.Over.{over}
 use Rattle.operation.specs.Limits.{Limits}
 use Rattle.operation.specs.Tree.{Op, Ops, plain, atomic, orelse, end, ◌then◌}

@@ -1,6 +1,5 @@
 -- Copy for a machine. Refusals in the paper's order: 1, 9, 8. Assumes nothing: these are definitions.
-use Rattle.std.specs.Prelude.{ℕ, not, ◌&&◌, List, ltb, leb, length}
-use Rattle.std.specs.Prelude.{if◌then◌else◌}
+use Rattle.std.specs.Prelude.{ℕ, not, ◌&&◌, List, ltb, leb, length, if◌then◌else◌}
 use Rattle.basics.specs.Over.{over}
 use Rattle.basics.specs.declared.Answer.{Answer}
 use Rattle.basics.specs.declared.Answer.TheVariants.{Done, OutOfShape, OutOfRange, BufferTooShort}

@@ -1,6 +1,5 @@
 -- A hub against the history of all that it decided, the oldest first. Assumes nothing: these are definitions.
-use Rattle.std.specs.Prelude.{ℕ, ◌+◌, ◌≤◌, ◌<◌, List, [], ◌∷◌, map, ◌≡◌, eqb, length, get_or, take}
-use Rattle.std.specs.Prelude.{if◌then◌else◌}
+use Rattle.std.specs.Prelude.{ℕ, ◌+◌, ◌≤◌, ◌<◌, List, [], ◌∷◌, map, ◌≡◌, eqb, length, get_or, take, if◌then◌else◌}
 use Rattle.operation.specs.Limits.{Limits}
 use Rattle.effect.specs.Replaying.{replay}
 use Rattle.state.specs.Numbers.{most_machines}

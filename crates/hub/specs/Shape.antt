@@ -1,6 +1,5 @@
 -- Good shape of the hub. Assumes nothing: these are definitions.
-use Rattle.std.specs.Prelude.{ℕ, zero, suc, ◌+◌, ◌-◌, Bool, true, ◌&&◌, List, ltb, eqb, get_or, set}
-use Rattle.std.specs.Prelude.{if◌then◌else◌}
+use Rattle.std.specs.Prelude.{ℕ, zero, suc, ◌+◌, ◌-◌, Bool, true, ◌&&◌, List, ltb, eqb, get_or, set, if◌then◌else◌}
 use Rattle.basics.specs.Every.{every}
 use Rattle.basics.specs.Counts.{counts}
 use Rattle.operation.specs.Limits.{Limits}

@@ -1,6 +1,5 @@
 -- The fresh hub. Assumes nothing: these are definitions.
-use Rattle.std.specs.Prelude.{ℕ, ◌&&◌, List, length, replicate}
-use Rattle.std.specs.Prelude.{if◌then◌else◌}
+use Rattle.std.specs.Prelude.{ℕ, ◌&&◌, List, length, replicate, if◌then◌else◌}
 use Rattle.basics.specs.Counts.{counts}
 use Rattle.basics.specs.declared.Answer.TheVariants.{Done, BadStart}
 use Rattle.operation.specs.Limits.{Limits}

@@ -1,6 +1,5 @@
 -- Submit. Refusals in the paper's order: 1, 9, 2, 10, 11. Assumes nothing: these are definitions.
-use Rattle.std.specs.Prelude.{ℕ, ◌+◌, ◌%◌, ◌≤◌, ◌<◌, true, not, ◌&&◌, List, ◌≡◌, ltb, length, set}
-use Rattle.std.specs.Prelude.{if◌then◌else◌}
+use Rattle.std.specs.Prelude.{ℕ, ◌+◌, ◌%◌, ◌≤◌, ◌<◌, true, not, ◌&&◌, List, ◌≡◌, ltb, length, set, if◌then◌else◌}
 use Rattle.basics.specs.Counts.{counts}
 use Rattle.basics.specs.declared.Answer.{Answer}
 use Rattle.basics.specs.declared.Answer.TheVariants.{Done, OutOfShape, OutOfRange, Malformed, Old, Early}

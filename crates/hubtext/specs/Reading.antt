@@ -1,6 +1,5 @@
 -- How the hub's text is read. Assumes nothing: these are definitions.
-use Rattle.std.specs.Prelude.{ℕ, suc, ◌+◌, ◌-◌, ◌%◌, Bool, true, false, ◌&&◌, List, [], ◌∷◌, ltb, eqb, length, get_or, set, replicate}
-use Rattle.std.specs.Prelude.{if◌then◌else◌}
+use Rattle.std.specs.Prelude.{ℕ, suc, ◌+◌, ◌-◌, ◌%◌, Bool, true, false, ◌&&◌, List, [], ◌∷◌, ltb, eqb, length, get_or, set, replicate, if◌then◌else◌}
 use Rattle.basics.specs.Over.{over}
 use Rattle.operation.specs.Limits.{Limits}
 use Rattle.operation.specs.Reading.{well_formed}

@@ -1,6 +1,5 @@
 -- Writing the hub's text into a lent buffer. Refusals in the paper's order: 1, 8. Assumes nothing: these are definitions.
-use Rattle.std.specs.Prelude.{ℕ, not, ◌&&◌, List, ltb, leb, length}
-use Rattle.std.specs.Prelude.{if◌then◌else◌}
+use Rattle.std.specs.Prelude.{ℕ, not, ◌&&◌, List, ltb, leb, length, if◌then◌else◌}
 use Rattle.basics.specs.Over.{over}
 use Rattle.basics.specs.declared.Answer.{Answer}
 use Rattle.basics.specs.declared.Answer.TheVariants.{Done, OutOfShape, BufferTooShort}

@@ -1,6 +1,5 @@
 -- A field byte by byte. Assumes nothing: these are definitions.
-use Rattle.std.specs.Prelude.{ℕ, ◌+◌, ◌≤◌, ◌<◌, List, ◌≡◌, leb, length, drop}
-use Rattle.std.specs.Prelude.{if◌then◌else◌}
+use Rattle.std.specs.Prelude.{ℕ, ◌+◌, ◌≤◌, ◌<◌, List, ◌≡◌, leb, length, drop, if◌then◌else◌}
 use Rattle.lines.specs.Fields.{Read, got, wrong, digits, field}
 use Rattle.lines.specs.declared.Field.{Field}
 use Rattle.lines.specs.declared.Step.{Step}

@@ -1,6 +1,5 @@
 -- A text of lines, each of which holds a value, whatever the values are. Assumes nothing: these are definitions.
-use Rattle.std.specs.Prelude.{ℕ, zero, suc, ◌<◌, Bool, true, false, List, [], ◌∷◌, ◌++◌, ◌≡◌, length}
-use Rattle.std.specs.Prelude.{if◌then◌else◌}
+use Rattle.std.specs.Prelude.{ℕ, zero, suc, ◌<◌, Bool, true, false, List, [], ◌∷◌, ◌++◌, ◌≡◌, length, if◌then◌else◌}
 use Rattle.lines.specs.Fields.{LF, Read, got, wrong}
 use Rattle.lines.specs.Same.{SameLines}
 

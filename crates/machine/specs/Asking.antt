@@ -1,6 +1,5 @@
 -- Ask for waiting operation j. Refusals in the paper's order: 1, 7, 8. Assumes nothing: these are definitions.
-use Rattle.std.specs.Prelude.{ℕ, ◌+◌, not, ◌&&◌, List, ltb, leb, length, get_or}
-use Rattle.std.specs.Prelude.{if◌then◌else◌}
+use Rattle.std.specs.Prelude.{ℕ, ◌+◌, not, ◌&&◌, List, ltb, leb, length, get_or, if◌then◌else◌}
 use Rattle.basics.specs.Over.{over}
 use Rattle.basics.specs.declared.Answer.{Answer}
 use Rattle.basics.specs.declared.Answer.TheVariants.{Done, OutOfShape, NoSuchWaiting, BufferTooShort}

@@ -1,6 +1,5 @@
 -- Take a fresh copy. Refusals in the paper's order: 1, 13, 10, 12. Assumes nothing: these are definitions.
-use Rattle.std.specs.Prelude.{ℕ, ◌+◌, ◌-◌, Bool, not, ◌&&◌, List, ltb, leb, eqb, length}
-use Rattle.std.specs.Prelude.{if◌then◌else◌}
+use Rattle.std.specs.Prelude.{ℕ, ◌+◌, ◌-◌, Bool, not, ◌&&◌, List, ltb, leb, eqb, length, if◌then◌else◌}
 use Rattle.basics.specs.Counts.{counts}
 use Rattle.basics.specs.declared.Answer.{Answer}
 use Rattle.basics.specs.declared.Answer.TheVariants.{Done, OutOfShape, BadCopy, Old, NotAsIssued}

@@ -1,7 +1,6 @@
 -- Issue. Refusals in the paper's order: 1, 2, 3, 4, 5. Assumes nothing: these are definitions.
-use Rattle.std.specs.Prelude.{ℕ, ◌+◌, not, List, leb, set}
+use Rattle.std.specs.Prelude.{ℕ, ◌+◌, not, List, leb, set, if◌then◌else◌}
 use Rattle.std.proofs.Math.Option.{Option, some, none}
-use Rattle.std.specs.Prelude.{if◌then◌else◌}
 use Rattle.basics.specs.declared.Answer.{Answer}
 use Rattle.basics.specs.declared.Answer.TheVariants.{
   Done,

@@ -1,6 +1,5 @@
 -- Note. Refusals in the paper's order: 1, 6. Assumes nothing: these are definitions.
-use Rattle.std.specs.Prelude.{ℕ, not, ◌&&◌, ltb, set}
-use Rattle.std.specs.Prelude.{if◌then◌else◌}
+use Rattle.std.specs.Prelude.{ℕ, not, ◌&&◌, ltb, set, if◌then◌else◌}
 use Rattle.basics.specs.declared.Answer.{Answer}
 use Rattle.basics.specs.declared.Answer.TheVariants.{Done, OutOfShape, NoSuchNote}
 use Rattle.operation.specs.Limits.{Limits}

@@ -1,6 +1,5 @@
 -- Good shape of a machine. Assumes nothing: these are definitions.
-use Rattle.std.specs.Prelude.{ℕ, ◌+◌, Bool, ◌&&◌, ltb, leb, eqb, get_or}
-use Rattle.std.specs.Prelude.{if◌then◌else◌}
+use Rattle.std.specs.Prelude.{ℕ, ◌+◌, Bool, ◌&&◌, ltb, leb, eqb, get_or, if◌then◌else◌}
 use Rattle.basics.specs.Every.{every}
 use Rattle.basics.specs.Counts.{counts}
 use Rattle.operation.specs.Limits.{Limits}

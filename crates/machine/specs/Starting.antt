@@ -1,6 +1,5 @@
 -- The fresh machine. Assumes nothing: these are definitions.
-use Rattle.std.specs.Prelude.{ℕ, ◌&&◌, List, ltb, length, replicate}
-use Rattle.std.specs.Prelude.{if◌then◌else◌}
+use Rattle.std.specs.Prelude.{ℕ, ◌&&◌, List, ltb, length, replicate, if◌then◌else◌}
 use Rattle.basics.specs.Counts.{counts}
 use Rattle.basics.specs.declared.Answer.TheVariants.{Done, BadStart}
 use Rattle.operation.specs.Limits.{Limits}

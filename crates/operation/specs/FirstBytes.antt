@@ -1,6 +1,5 @@
 -- What the first bytes of an operation say. Assumes nothing: these are definitions.
-use Rattle.std.specs.Prelude.{ℕ, ◌+◌, ◌*◌, not, ◌&&◌, List, ltb, leb, eqb, length, get_or}
-use Rattle.std.specs.Prelude.{if◌then◌else◌}
+use Rattle.std.specs.Prelude.{ℕ, ◌+◌, ◌*◌, not, ◌&&◌, List, ltb, leb, eqb, length, get_or, if◌then◌else◌}
 use Rattle.operation.specs.Limits.{Limits}
 use Rattle.operation.specs.declared.Plain.{Plain}
 use Rattle.operation.specs.declared.Plain.TheVariants.{Need, Put, Draw, Move}

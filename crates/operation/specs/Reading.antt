@@ -1,7 +1,6 @@
 -- The operation that bytes are: from bytes to the tree. Assumes nothing: these are definitions.
-use Rattle.std.specs.Prelude.{ℕ, zero, suc, Bool, true, false, ◌&&◌, List, leb, eqb, length, drop}
+use Rattle.std.specs.Prelude.{ℕ, zero, suc, Bool, true, false, ◌&&◌, List, leb, eqb, length, drop, if◌then◌else◌}
 use Rattle.std.proofs.Math.Option.{Option, some, none, map, bind}
-use Rattle.std.specs.Prelude.{if◌then◌else◌}
 use Rattle.operation.specs.Limits.{Limits}
 use Rattle.operation.specs.FirstBytes.{kind_of}
 use Rattle.operation.specs.Tree.{Op, Ops, plain, atomic, orelse, end, ◌then◌, op_size}

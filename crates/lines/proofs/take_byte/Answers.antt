@@ -48,4 +48,4 @@ returns-then-b-gt57 c = record {
 
 pub returns : goal.returns
 unfolding go_on StepKept
-returns c = search rules  -- ?? goes kept
+returns c = search rules

@@ -1,9 +1,8 @@
 use lib.ListN.{length}
-use mathlib.Core.Path.{◌≡◌}
+use mathlib.Core.Path.{◌≡◌, ◌∙◌}
 use borrow.Author.Rules.{rules}
 use Rattle.operation.specs.Limits.{limits}
 use native.Mathlib.Omega.{arith}
-use mathlib.Core.Path.{◌∙◌}
 use Rattle.hub.proofs.InShape.{good}
 use Rattle.hub.proofs.Copying.{no_machine, too_short, is_copied}
 use Rattle.hub.proofs.Hub.copy_known.Goals as goal

@@ -1,11 +1,9 @@
-use mathlib.Core.Path.{ap}
+use mathlib.Core.Path.{ap, ◌∙◌}
 use lib.ListN.{get_or}
 use Rattle.hub.specs.Ring.{no_record}
-use Rattle.hub.proofs.InShape.{kept_short}
+use Rattle.hub.proofs.InShape.{kept_short, good}
 use Rattle.operation.specs.Limits.{limits}
 use native.Mathlib.Omega.{arith}
-use mathlib.Core.Path.{◌∙◌}
-use Rattle.hub.proofs.InShape.{good}
 use Rattle.hub.proofs.Fetching.{not_decided, not_kept, too_short, is_fetched}
 use Rattle.hub.proofs.Hub.fetch_known.Goals as goal
 

@@ -1,9 +1,8 @@
 use lib.ListN.{length}
-use mathlib.Core.Path.{◌≡◌}
+use mathlib.Core.Path.{◌≡◌, ◌∙◌}
 use borrow.Author.Rules.{rules}
 use Rattle.operation.specs.Limits.{limits}
 use native.Mathlib.Omega.{arith}
-use mathlib.Core.Path.{◌∙◌}
 use Rattle.operation.proofs.WellFormed.{formed, op_of}
 use Rattle.hub.proofs.InShape.{good}
 use Rattle.hub.proofs.Submitting.{is_old, is_early, is_next}

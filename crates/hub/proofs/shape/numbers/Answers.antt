@@ -1,10 +1,9 @@
 use lib.ListN.{get_or}
-use mathlib.Core.Path.{ap}
+use mathlib.Core.Path.{ap, sym, ◌∙◌}
 use Rattle.hub.specs.Ring.{no_record}
 use borrow.Author.Rules.{rules}
 use Rattle.hub.proofs.Numbering.{numbered_start, numbered_stops, numbered_more, numbered_end, follows_far, follows_not, follows_so}
 use native.Mathlib.Omega.{arith}
-use mathlib.Core.Path.{sym, ◌∙◌}
 use Rattle.hub.proofs.shape.numbers.Goals as goal
 
 pub loop-k-init : goal.loop-k-init

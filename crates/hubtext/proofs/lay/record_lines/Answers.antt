@@ -1,11 +1,10 @@
 use borrow.Author.Rules.{rules}
 use native.Mathlib.Omega.{arith}
 use Rattle.operation.specs.Limits.{limits}
-use mathlib.Core.Path.{◌≡◌, refl}
+use mathlib.Core.Path.{◌≡◌, refl, ap, sym, subst}
 use Prim.Native.Nat.{◌≤◌}
 use lib.ListN.{get_or}
 use Rattle.hub.specs.Ring.{no_record}
-use mathlib.Core.Path.{ap, sym, subst}
 use Rattle.hub.specs.declared.Record.{Record}
 use Rattle.hubtext.proofs.WrittenLines.{entries_none, entries_next}
 use Rattle.hubtext.proofs.lay.record_lines.Goals as goal

@@ -1,6 +1,5 @@
-use Rattle.lines.proofs.Laying.{few_digits}
+use Rattle.lines.proofs.Laying.{few_digits, puts_decimal}
 use native.Mathlib.Omega.{arith}
-use Rattle.lines.proofs.Laying.{puts_decimal}
 use Rattle.lines.proofs.put.number.Goals as goal
 
 pub bytes-requires : goal.bytes-requires
