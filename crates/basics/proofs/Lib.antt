@@ -4,5 +4,5 @@ pub mod Every
 pub mod Counts
 pub mod Sums
 pub mod Over
-pub mod Answers
-pub mod Parts
+pub mod Refusals
+pub mod Places

@@ -1,25 +1,13 @@
 -- Laws of elements over the start of a buffer. Assumes nothing.
 use Prim.Native.Nat.{ℕ, zero, suc, ◌+◌, ◌-◌, ◌≤◌, ◌<◌}
-use native.Mathlib.Numerals.{add-one}
 use native.Mathlib.Omega.{arith}
-use mathlib.Core.Path.{◌≡◌, refl, sym, ◌∙◌}
+use mathlib.Core.Path.{◌≡◌, refl, ◌∙◌}
 use mathlib.Core.List.{List}
-use lib.ListN.{length, get_or, set, take, drop, replicate, length-append, length-drop, get_or-append}
-use lib.Seq.{take-suc, drop-cons, set_at, length-take-le, append_snoc, take-length, get_or-drop, get_or-append-add}
+use lib.ListN.{length, get_or, drop, replicate, length-append, length-drop, get_or-append}
+use lib.Seq.{length-take-le, take-length, get_or-drop, get_or-append-add}
 use Rattle.basics.specs.Over.{over}
 
 module _ {A : Type 0} (s d : List A) where
-  pub over_none : over 0 s d ≡ d
-  over_none = refl
-
-  -- a loop that writes one more
-  pub over_more :
-      (z : A) (i : ℕ) → i < length s → i < length d → set (over i s d) i (get_or s i z) ≡ over (i + 1) s d
-  over_more z i hs hd =
-      rw (add-one, take-suc s i z, drop-cons d i z hd)
-      (set_at (take i s) (get_or d i z) (drop (suc i) d) (get_or s i z) i (length-take-le i s (omega arith)) ∙
-      sym (append_snoc (take i s) (get_or s i z) (drop (suc i) d)))
-
   pub over_length : (n : ℕ) → n ≤ length s → n ≤ length d → length (over n s d) ≡ length d
   over_length n hs hd = simp (length-append, length-take-le n s hs, length-drop) (omega arith)
 

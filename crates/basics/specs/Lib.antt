@@ -3,4 +3,4 @@ pub mod Every
 pub mod Counts
 pub mod Sums
 pub mod Over
-pub mod Answers
+pub mod Refusals

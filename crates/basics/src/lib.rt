@@ -1,58 +1,48 @@
 // What several crates stand on: the answers by name, and small functions on slices and bytes.
 #![tactic(auto)]
 
-ghost use Rattle.std.specs.Prelude.{◌≡◌, drop, ltb, leb, eqb, true, if◌then◌else◌};
-ghost use Rattle.basics.specs.Answers.{number_of};
-ghost use Rattle.basics.specs.Counts.{counts, zeros_from};
+ghost use Rattle.std.specs.Prelude.{◌≡◌, ◌≤◌, ◌++◌, ℕ, drop, length, map};
+ghost use Rattle.std.specs.List.{list_all, enumerate_from};
+ghost use Rattle.basics.specs.Refusals.{number_of, answer_number};
+ghost use Rattle.basics.specs.Counts.{is_count, counts, zeros_from};
 
-// What a call answers: done, or why it refuses. `number_of` in specs/Answers.antt has the paper's number of each.
-#[derive(Clone, Copy)]
-pub enum Answer {
-    Done,
-    OutOfShape,
-    Malformed,
-    QueueFull,
-    AllIssued,
-    FailsOnGuess,
-    NoSuchNote,
-    NoSuchWaiting,
-    BufferTooShort,
-    OutOfRange,
-    Old,
-    Early,
-    NotAsIssued,
-    BadCopy,
-    NotDecided,
-    NotKept,
-    BadText,
-    BadStart,
+// Why a call refuses, by the paper's number.
+#[derive(Clone, Copy, PartialEq, Eq)]
+pub enum Refusal {
+    OutOfShape = 1,
+    Malformed = 2,
+    QueueFull = 3,
+    AllIssued = 4,
+    FailsOnGuess = 5,
+    NoSuchNote = 6,
+    NoSuchWaiting = 7,
+    BufferTooShort = 8,
+    OutOfRange = 9,
+    Old = 10,
+    Early = 11,
+    NotAsIssued = 12,
+    BadCopy = 13,
+    NotDecided = 14,
+    NotKept = 15,
+    BadText = 16,
+    BadStart = 17,
 }
 
-impl Answer {
-    // The paper's number.
+impl Refusal {
     pub fn number(self) -> u8
         ensures { result ≡ number_of self }
     {
-        match self {
-            Answer::Done => 0,
-            Answer::OutOfShape => 1,
-            Answer::Malformed => 2,
-            Answer::QueueFull => 3,
-            Answer::AllIssued => 4,
-            Answer::FailsOnGuess => 5,
-            Answer::NoSuchNote => 6,
-            Answer::NoSuchWaiting => 7,
-            Answer::BufferTooShort => 8,
-            Answer::OutOfRange => 9,
-            Answer::Old => 10,
-            Answer::Early => 11,
-            Answer::NotAsIssued => 12,
-            Answer::BadCopy => 13,
-            Answer::NotDecided => 14,
-            Answer::NotKept => 15,
-            Answer::BadText => 16,
-            Answer::BadStart => 17,
-        }
+        self as u8
+    }
+}
+
+// The paper's number of what a call answers: 0 where it is done.
+pub fn number<T: Copy>(answer: Result<T, Refusal>) -> u8
+    ensures { result ≡ answer_number answer }
+{
+    match answer {
+        Ok(_) => 0,
+        Err(refusal) => refusal.number(),
     }
 }
 
@@ -60,72 +50,71 @@ impl Answer {
 pub fn after(s: &[u8], n: usize) -> &[u8]
     ensures { result.now ≡ drop n s.now }
 {
-    if n <= s.len() { &s[n..] } else { &s[s.len()..] }
+    s.get(n..).unwrap_or(&[])
 }
 
-// A byte as an index.
-pub fn index(x: u8) -> usize
-    ensures { result ≡ x }
+// Puts `from` at the start of `buf`, whose later places stay.
+pub fn lay<T: Copy>(from: &[T], buf: &mut [T])
+    requires { length from.now ≤ length buf.old }
+    ensures { buf.new ≡ from.now ++ drop (length from.now) buf.old }
 {
-    x as usize
+    buf[..from.len()].copy_from_slice(from);
+}
+
+// A number, in however many bits.
+pub trait Count: Copy {
+    ghost value: { Self → ℕ };
+
+    fn wide(self) -> u64
+        ensures { result ≡ value self };
+}
+
+impl Count for u8 {
+    ghost value = { λ x. x };
+
+    fn wide(self) -> u64 {
+        u64::from(self)
+    }
+}
+
+impl Count for u32 {
+    ghost value = { λ x. x };
+
+    fn wide(self) -> u64 {
+        u64::from(self)
+    }
+}
+
+impl Count for u64 {
+    ghost value = { λ x. x };
+
+    fn wide(self) -> u64 {
+        self
+    }
 }
 
 // Whether each of the first `n` of `xs` is at most `most`, and every later one 0.
-pub fn are_counts(xs: &[u32], n: usize, most: u32) -> bool
-    ensures { result ≡ counts xs.now n most }
+pub fn are_counts<T: Count>(xs: &[T], n: usize, most: T) -> bool
+    ensures { result ≡ counts (map T.value xs.now) n (T.value most) }
 {
-    let mut i: usize = 0;
-    while i < xs.len() {
-        if !is_count(xs[i], i, n, most) {
-            return false;
-        }
-        i += 1;
-    }
-    true
+    all_counts(xs, n, most)
 }
 
-fn is_count(x: u32, i: usize, n: usize, most: u32) -> bool
-    ensures { result ≡ (if ltb i n then leb x most else eqb x 0) }
+// The same, said as the chain goes.
+fn all_counts<T: Count>(xs: &[T], n: usize, most: T) -> bool
+    ensures { result ≡ list_all (λ p. is_count n (T.value most) p.0 (T.value p.1)) (enumerate_from 0 xs.now) }
 {
-    if i < n { x <= most } else { x == 0 }
-}
-
-// The same of longer numbers.
-pub fn are_numbers(xs: &[u64], n: usize, most: u64) -> bool
-    ensures { result ≡ counts xs.now n most }
-{
-    let mut i: usize = 0;
-    while i < xs.len() {
-        if !is_number(xs[i], i, n, most) {
-            return false;
-        }
-        i += 1;
-    }
-    true
-}
-
-fn is_number(x: u64, i: usize, n: usize, most: u64) -> bool
-    ensures { result ≡ (if ltb i n then leb x most else eqb x 0) }
-{
-    if i < n { x <= most } else { x == 0 }
+    let top = most.wide();
+    xs.iter().enumerate().all(|(i, x)| if i < n {
+        x.wide() <= top
+    } else {
+        x.wide() == 0
+    })
 }
 
 // Whether every place of `xs` from the `n`-th on is 0.
 pub fn are_zeros(xs: &[u8], n: usize) -> bool
     ensures { result ≡ zeros_from xs.now n }
 {
-    let mut i: usize = 0;
-    while i < xs.len() {
-        if !is_zero(xs[i], i, n) {
-            return false;
-        }
-        i += 1;
-    }
-    true
-}
-
-fn is_zero(x: u8, i: usize, n: usize) -> bool
-    ensures { result ≡ (if ltb i n then true else eqb x 0) }
-{
-    if i < n { true } else { x == 0 }
+    are_counts(xs, n, u8::MAX)
 }

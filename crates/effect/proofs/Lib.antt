@@ -1,5 +1,4 @@
 -- The laws of running, by subject; the crates above cite them too.
-pub mod Steps
 pub mod Cases
 mod Walking
 pub mod Outcomes

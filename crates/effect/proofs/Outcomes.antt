@@ -8,11 +8,9 @@ use Rattle.operation.specs.Limits.{Limits}
 use Rattle.operation.specs.Tree.{Op}
 use Rattle.operation.specs.Reading.{read_op, operation_of, is_some, well_formed}
 use Rattle.operation.proofs.WellFormed.{formed, op_of}
-use Rattle.effect.proofs.Cases.{came_some, came_none}
-use Rattle.effect.specs.Running.{run, outcome, Came, came}
-use Rattle.effect.specs.Telling.{told, tells, tells_op, tells_bytes}
+use Rattle.effect.specs.Running.{run, outcome, Came, came, bit}
+use Rattle.effect.specs.Telling.{told, malformed, tells, tells_op, tells_bytes}
 use Rattle.effect.specs.Walking.{RunsOp}
-use Rattle.effect.specs.declared.Verdict.TheVariants.{Malformed, Fails, Succeeds}
 
 module _ (l : Limits) (width : ℕ) (s c : List ℕ) where
   -- the outcome of bytes that are an operation is that of running it
@@ -33,18 +31,28 @@ module _ (l : Limits) (width : ℕ) (s c : List ℕ) where
     unfolding tells
     tells_op_lem = let p = op_of l width s good in rw (outcome_is p.0 p.1, p.1)
 
-    pub told_yes :
-        (r : Came) → r ≡ came c (outcome l width s c) → r.ok ≡ true → told Succeeds r.cells ≡ tells l width s c
-    told_yes r e h = rw (tells_op_lem, came_some c r (outcome l width s c) e h)
+    -- so what is told of them is what came of running them
+    pub told_came :
+        tells l width s c ≡ record {
+          answer = 0;
+          outcome = bit (came c (outcome l width s c)).ok;
+          cells = (came c (outcome l width s c)).cells;
+        }
+    told_came = rw tells_op_lem (go (outcome l width s c))
+      where
+        go :
+            (o : Option (List ℕ)) →
+            tells_op c o ≡ record { answer = 0; outcome = bit (came c o).ok; cells = (came c o).cells }
+        go (some d) = refl
+        go none = refl
 
-    pub told_no :
-        (r : Came) → r ≡ came c (outcome l width s c) → r.ok ≡ false → told Fails r.cells ≡ tells l width s c
-    told_no r e h = let (fails, cells) = came_none c r (outcome l width s c) e h in rw (tells_op_lem, fails, cells)
-
-  pub told_malformed : well_formed l width s ≡ false → told Malformed c ≡ tells l width s c
+  pub told_malformed : well_formed l width s ≡ false → told malformed c ≡ tells l width s c
   unfolding well_formed tells
   told_malformed bad = go (operation_of l width s) bad
     where
-      go : (o : Option Op) → is_some o ≡ false → told Malformed c ≡ tells_bytes l c o
+      go : (o : Option Op) → is_some o ≡ false → told malformed c ≡ tells_bytes l c o
       go (some p) h = absurd (true≢false h)
       go none h = refl
+
+-- one for each way out of the code that runs any bytes
+pub ruleset told_laws = (told_malformed, told_came)

@@ -4,13 +4,14 @@ use native.Mathlib.Numerals.{add-one}
 use mathlib.Core.Bool.{Bool}
 use mathlib.Core.List.{List, [], ◌∷◌, ◌++◌, map-append}
 use mathlib.Core.Path.{◌≡◌, refl, ap}
-use lib.ListN.{length, get_or}
-use lib.Seq.{take-suc}
+use native.Mathlib.Omega.{arith}
+use lib.ListN.{length, get_or, take, length-take}
+use lib.Seq.{take-suc, get_or-take}
 use Rattle.operation.specs.Limits.{Limits}
 use Rattle.operation.specs.Packing.{unpacked, nothing}
 use Rattle.operation.specs.declared.Packed.{Packed}
 use Rattle.effect.specs.Running.{outcome, Came, did, came}
-use Rattle.effect.specs.Replaying.{after, replay, queued}
+use Rattle.effect.specs.Replaying.{after, replay, queued, Sound, Ready}
 
 module _ (l : Limits) (width : ℕ) where
   pub replay_append :
@@ -33,3 +34,11 @@ module _ (l : Limits) (width : ℕ) where
     replay_more i d e ok h before ran =
         rw (add-one, take-suc queue i nothing h, map-append, replay_append, ← before)
         (ap (λ (x : Came). x.cells) ran)
+
+  -- the first n of a queue that is ready are sound, each
+  pub ready_front :
+      (n : ℕ) (queue : List Packed) → Ready l width n queue → (i : ℕ) → i < length (take n queue) →
+      Sound l width (get_or (take n queue) i nothing)
+  ready_front n queue ready i h =
+      let k : i < n = omega (arith, simp length-take at h) in
+      rw get_or-take (ready.sound i k)

@@ -1,11 +1,12 @@
 -- Laws of the walk over the bytes: what each way through it comes to. Assumes nothing.
 use Prim.Native.Nat.{ℕ, ◌-◌, ◌<◌, ◌≤◌}
 use native.Mathlib.Omega.{arith}
-use mathlib.Core.Bool.{true, false, true≢false, false≢true}
+use mathlib.Core.Bool.{true, false}
 use mathlib.Core.List.{List}
 use mathlib.Core.Option.{Option, some, none, map, bind, or_else}
-use mathlib.Core.Path.{◌≡◌, refl, sym, ap, ◌∙◌}
+use mathlib.Core.Path.{◌≡◌, refl, sym, ◌∙◌}
 use lib.ListN.{drop}
+use Rattle.std.specs.Prelude.{Some, None}
 use Rattle.operation.specs.Limits.{Limits}
 use Rattle.operation.specs.FirstBytes.{kind_of}
 use Rattle.operation.specs.Tree.{Op, Ops, plain, atomic, end, op_size}
@@ -13,18 +14,17 @@ use Rattle.operation.specs.Reading.{read_parts, read_body, read_op}
 use Rattle.operation.specs.Sizes.{size_of}
 use Rattle.operation.specs.declared.Plain.{Plain}
 use Rattle.operation.specs.declared.Plain.TheVariants.{Need, Put, Draw, Move}
-use Rattle.operation.specs.declared.kind.Kind.TheVariants.{One, Atomic, Orelse, Malformed}
-use Rattle.operation.specs.declared.size.Size.TheVariants.{Bytes, Malformed as NoSize}
+use Rattle.operation.specs.declared.kind.Kind.TheVariants.{One, Atomic, Orelse}
 use Rattle.operation.proofs.FirstBytes.{PlainRead, kind_is}
 use Rattle.operation.proofs.Reading.{none_some, read_step, split_of, two_of}
 use Rattle.effect.proofs.Cases.{came_some, came_none}
 use Rattle.effect.specs.Running.{step, run, run_all, Came, did, came}
-use Rattle.effect.specs.Walking.{Inside, RunsOp, RunsEither, RunsAtomic, RunsParts, Leaves}
+use Rattle.effect.specs.Walking.{Inside, RunsOp, RunsEither, RunsAtomic, RunsParts}
 
 -- the cells that a plain operation names are there
 pub kind_inside :
-    (l : Limits) (width m : ℕ) (s : List ℕ) (p : Plain) → width ≤ m → One p ≡ kind_of l width s → Inside m p
-kind_inside l width m s p h e = go p (kind_is l width s (One p) e)
+    (l : Limits) (width m : ℕ) (s : List ℕ) (p : Plain) → width ≤ m → Some (One p) ≡ kind_of l width s → Inside m p
+kind_inside l width m s p h e = go p (kind_is l width s (Some (One p)) e)
   where
     go : (p : Plain) → PlainRead l width s p → Inside m p
     go (Need cell amount) r = omega (arith, r.1.below)
@@ -38,12 +38,12 @@ module _ (l : Limits) (width depth : ℕ) (s c : List ℕ) (r : Came) where
   run_zero h p e = none_some (read_op l width depth s) p (rw h) e
 
   module _ (f : 0 < depth) where
-    pub run_malformed : Malformed ≡ kind_of l width s → RunsOp l (read_op l width depth) s c r
+    pub run_malformed : None ≡ kind_of l width s → RunsOp l (read_op l width depth) s c r
     unfolding read_body
     run_malformed h p e = none_some (read_op l width depth s) p (rw (read_step l width depth s f, ← h)) e
 
     pub run_one :
-        (p : Plain) → One p ≡ kind_of l width s → r ≡ came c (step l p c) → RunsOp l (read_op l width depth) s c r
+        (p : Plain) → Some (One p) ≡ kind_of l width s → r ≡ came c (step l p c) → RunsOp l (read_op l width depth) s c r
     unfolding read_body run
     run_one p h q o e =
         let w : some o ≡ some (plain p) = sym e ∙ rw (read_step l width depth s f, ← h) in
@@ -51,7 +51,7 @@ module _ (l : Limits) (width depth : ℕ) (s c : List ℕ) (r : Came) where
         rw v q
 
     pub run_atomic :
-        (n : ℕ) (t : List ℕ) → Atomic n ≡ kind_of l width s → t ≡ drop 2 s →
+        (n : ℕ) (t : List ℕ) → Some (Atomic n) ≡ kind_of l width s → t ≡ drop 2 s →
         RunsAtomic l (read_op l width (depth - 1)) n t c r → RunsOp l (read_op l width depth) s c r
     unfolding read_body run
     run_atomic n t h u q o e =
@@ -65,37 +65,21 @@ module _ (l : Limits) (width depth : ℕ) (s c : List ℕ) (r : Came) where
         go none k o e = none_some none o refl e
 
     pub run_orelse :
-        (t : List ℕ) → Orelse ≡ kind_of l width s → t ≡ drop 1 s → RunsEither l (read_op l width (depth - 1)) t c r →
+        (t : List ℕ) → Some Orelse ≡ kind_of l width s → t ≡ drop 1 s → RunsEither l (read_op l width (depth - 1)) t c r →
         RunsOp l (read_op l width depth) s c r
     unfolding read_body
     run_orelse t h u q o e = q o (rw u (rw (read_step l width depth s f, ← h) at e))
 
 module _ (l : Limits) (reader : List ℕ → Option Op) (s c : List ℕ) where
-  -- all parts succeeded, or the cells are put back
-  module _ (n : ℕ) (q : Came) (ran : RunsParts l reader n s c q) where
-    pub atomic_yes : q.ok ≡ true → RunsAtomic l reader n s c (did true q.cells)
-    atomic_yes h ps e = go (run_all l ps c) (ran ps e)
-      where
-        go : (o : Option (List ℕ)) → Leaves l reader o q → did true q.cells ≡ came c o
-        go (some d) k = ap (λ (x : Came). did true x.cells) k
-        go none k = absurd (true≢false (sym h ∙ k))
-
-    pub atomic_no : q.ok ≡ false → RunsAtomic l reader n s c (did false c)
-    atomic_no h ps e = go (run_all l ps c) (ran ps e)
-      where
-        go : (o : Option (List ℕ)) → Leaves l reader o q → did false c ≡ came c o
-        go (some d) k = absurd (false≢true (sym h ∙ ap (λ (x : Came). x.ok) k))
-        go none k = refl
-
   pub parts_zero : (n : ℕ) → n ≡ 0 → RunsParts l reader n s c (did true c)
   unfolding read_parts run
   parts_zero n h ps e = let w : some end ≡ some ps = rw h at e in let v : ps ≡ end = cc in rw v refl
 
   -- no operation begins s
-  module _ (no : NoSize ≡ size_of (reader s)) (r : Came) where
+  module _ (no : None ≡ size_of (reader s)) (r : Came) where
     unread : {P : Type 0} (p : Op) → reader s ≡ some p → P
     unread p e =
-        let w : NoSize ≡ Bytes (op_size p) = no ∙ rw e in
+        let w : None ≡ Some (op_size p) = no ∙ rw e in
         let z : ◌≡◌ {A = ℕ} 0 1 = cc in
         absurd (omega arith)
 
@@ -120,10 +104,10 @@ module _ (l : Limits) (reader : List ℕ → Option Op) (s c : List ℕ) where
         rw (t.joined, came_some c q (run l t.first c) (ran t.first t.reads_first) h)
 
     -- and those after it are read where it ends
-    module _ (k : ℕ) (t : List ℕ) (size : Bytes k ≡ size_of (reader s)) (rest : t ≡ drop k s) where
+    module _ (k : ℕ) (t : List ℕ) (size : Some k ≡ size_of (reader s)) (rest : t ≡ drop k s) where
       after_first : (p : Op) → reader s ≡ some p → t ≡ drop (op_size p) s
       after_first p e =
-          let w : Bytes k ≡ Bytes (op_size p) = size ∙ rw e in
+          let w : Some k ≡ Some (op_size p) = size ∙ rw e in
           let v : k ≡ op_size p = cc in
           rest ∙ rw v
 

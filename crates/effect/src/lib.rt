@@ -4,16 +4,17 @@
 mod plain;
 mod walk;
 
-ghost use Rattle.std.specs.Prelude.{◌≡◌, true, ◌≤◌, length, take};
+ghost use Rattle.std.specs.Prelude.{◌≡◌, true, ◌≤◌, ◌<◌, ℕ, length, get_or, map, is_ok};
 ghost use Rattle.operation.specs.Limits.{limits};
 ghost use Rattle.operation.specs.Reading.{well_formed};
-ghost use Rattle.effect.specs.Running.{filled, did, came, outcome, bit as outcome_bit};
+ghost use Rattle.effect.specs.Running.{filled, did, came, outcome};
 ghost use Rattle.effect.specs.Telling.{told, tells};
-ghost use Rattle.operation.specs.Packing.{unpacked};
-ghost use Rattle.effect.specs.Replaying.{queued, replay as replayed, Ready, Sound};
+ghost use Rattle.operation.specs.Packing.{unpacked, nothing};
+ghost use Rattle.effect.specs.Replaying.{replay as replayed, Sound};
+ghost use Rattle.effect.specs.declared.Failure.TheVariants.{Fails as OperationFails};
 
-use basics::index;
-use operation::{BYTES, CELLS, DEPTH, Packed};
+use basics::lay;
+use operation::{CELLS, DEPTH, Packed};
 
 // What the cells hold; those past the number of cells are not used.
 pub type Cells = [u32; CELLS];
@@ -25,87 +26,62 @@ pub const QUEUE: usize = 16;
 pub type Queue = [Packed; QUEUE];
 
 // The counts `first`, and zeros after them.
+#[tactic(auto, unfolding(crate::specs::Running::filled))]
 pub fn cells_of(first: &[u32]) -> Cells
     requires { length first.now ≤ limits.cells }
     ensures { result ≡ filled limits first.now }
 {
-    let mut cells = [0u32; CELLS];
-    let mut i = 0;
-    while i < first.len() {
-        cells[i] = first[i];
-        i += 1;
-    }
+    let mut cells = [0; CELLS];
+    lay(first, &mut cells);
     cells
 }
 
-// What running tells.
-#[derive(Clone, Copy)]
-pub struct Ran {
-    pub ok: bool,
-}
+// An operation fails.
+#[derive(Clone, Copy, PartialEq, Eq)]
+pub struct Fails;
 
-// An outcome as a number: 1 where it succeeded, 0 where it failed.
-pub fn bit(ok: bool) -> u8
-    ensures { result ≡ outcome_bit ok }
-{
-    if ok { 1 } else { 0 }
-}
-
-// What becomes of bytes that are to be run.
-#[derive(Clone, Copy)]
-pub enum Verdict {
+// Why bytes that are to be run do not succeed.
+#[derive(Clone, Copy, PartialEq, Eq)]
+pub enum Failure {
     Malformed,
     Fails,
-    Succeeds,
+}
+
+impl From<Fails> for Failure {
+    ghost from_gives = { λ _ f. f ≡ OperationFails };
+
+    fn from(_fails: Fails) -> Failure {
+        Failure::Fails
+    }
 }
 
 // Runs `s` where there are `width` cells. The cells are changed only where it succeeds.
-pub fn run(s: &[u8], width: usize, cells: &mut Cells) -> Verdict
+#[tactic(auto, using(crate::proofs::Outcomes::told_laws))]
+pub fn run(s: &[u8], width: usize, cells: &mut Cells) -> Result<(), Failure>
     ensures { told result cells.new ≡ tells limits width s.now cells.old }
 {
     if !operation::well_formed(s, width) {
-        return Verdict::Malformed;
+        return Err(Failure::Malformed);
     }
-    if run_known(s, width, cells).ok {
-        Verdict::Succeeds
-    } else {
-        Verdict::Fails
-    }
+    run_known(s, width, cells)?;
+    Ok(())
 }
 
 // The same of an operation that is known to be well formed.
-pub fn run_known(s: &[u8], width: usize, cells: &mut Cells) -> Ran
+#[tactic(auto, using(crate::proofs::Outcomes::cells_there))]
+pub fn run_known(s: &[u8], width: usize, cells: &mut Cells) -> Result<(), Fails>
     requires { well_formed limits width s.now ≡ true }
-    ensures { did result.ok cells.new ≡ came cells.old (outcome limits width s.now cells.old) }
+    ensures { did (is_ok result) cells.new ≡ came cells.old (outcome limits width s.now cells.old) }
 {
     walk::operation(s, width, DEPTH, cells)
 }
 
-// The same of one that is kept.
-fn run_packed(o: Packed, width: usize, cells: &mut Cells) -> Ran
-    requires { Sound limits width o }
-    ensures { did result.ok cells.new ≡ came cells.old (outcome limits width (unpacked o) cells.old) }
+// Runs the operations of a queue one after another. One that fails changes no cell, and the next is run all the same.
+pub fn replay(queue: &[Packed], width: usize, cells: &mut Cells)
+    requires { (i : ℕ) → i < length queue.now → Sound limits width (get_or queue.now i nothing) }
+    ensures { cells.new ≡ replayed limits width (map unpacked queue.now) cells.old }
 {
-    let bytes = o.bytes;
-    run_front(bytes, index(o.len), width, cells)
-}
-
-// The same of the first `len` bytes of an array.
-fn run_front(bytes: [u8; BYTES], len: usize, width: usize, cells: &mut Cells) -> Ran
-    requires { (len ≤ limits.bytes) × (well_formed limits width (take len bytes) ≡ true) }
-    ensures { did result.ok cells.new ≡ came cells.old (outcome limits width (take len bytes) cells.old) }
-{
-    run_known(&bytes[..len], width, cells)
-}
-
-// Runs the first `n` of a queue one after another. One that fails changes no cell, and the next is run all the same.
-pub fn replay(queue: Queue, n: usize, width: usize, cells: &mut Cells)
-    requires { Ready limits width n queue }
-    ensures { cells.new ≡ replayed limits width (queued n queue) cells.old }
-{
-    let mut i: usize = 0;
-    while i < n {
-        run_packed(queue[i], width, cells);
-        i += 1;
+    for o in queue {
+        let _ = run_known(o.op(), width, cells);
     }
 }

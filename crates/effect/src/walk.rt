@@ -1,84 +1,70 @@
 // Running the bytes of an operation: an operation runs its parts, and the parts are run by the operation, while the
 // depth and the parts that are left fall.
-ghost use Rattle.std.specs.Prelude.{◌≡◌, ◌≤◌};
+ghost use Rattle.std.specs.Prelude.{◌≡◌, ◌≤◌, is_ok};
 ghost use Rattle.operation.specs.Limits.{limits};
 ghost use Rattle.operation.specs.Reading.{read_op};
 ghost use Rattle.effect.specs.Running.{did};
 ghost use Rattle.effect.specs.Walking.{RunsOp, RunsAtomic, RunsParts, RunsEither};
 
-use crate::{Cells, Ran, plain};
+use crate::{Cells, Fails, plain};
 use basics::after;
 use operation::kind::Kind;
-use operation::size::Size;
 use operation::{kind, size};
 
 // Runs the operation that `s` begins with, at most `depth` deep.
 #[cycle(atomic_either_operation_parts)]
-pub fn operation(s: &[u8], width: usize, depth: usize, cells: &mut Cells) -> Ran
+pub fn operation(s: &[u8], width: usize, depth: usize, cells: &mut Cells) -> Result<(), Fails>
     requires { width ≤ limits.cells }
-    ensures { RunsOp limits (read_op limits width depth) s.now cells.old (did result.ok cells.new) }
+    ensures { RunsOp limits (read_op limits width depth) s.now cells.old (did (is_ok result) cells.new) }
 {
     if depth == 0 {
-        return Ran { ok: false };
+        return Err(Fails);
     }
-    match kind::read(s, width) {
+    match kind::read(s, width).ok_or(Fails)? {
         Kind::One(p) => plain::apply(p, cells),
         Kind::Atomic(n) => atomic(after(s, 2), n, width, depth - 1, cells),
         Kind::Orelse => either(after(s, 1), width, depth - 1, cells),
-        Kind::Malformed => Ran { ok: false },
     }
 }
 
 // Runs the `n` operations that `s` begins with: all of them, or none.
 #[cycle(atomic_either_operation_parts)]
-fn atomic(s: &[u8], n: u8, width: usize, depth: usize, cells: &mut Cells) -> Ran
+fn atomic(s: &[u8], n: u8, width: usize, depth: usize, cells: &mut Cells) -> Result<(), Fails>
     requires { width ≤ limits.cells }
-    ensures { RunsAtomic limits (read_op limits width depth) n s.now cells.old (did result.ok cells.new) }
+    ensures { RunsAtomic limits (read_op limits width depth) n s.now cells.old (did (is_ok result) cells.new) }
 {
     let before = *cells;
-    if parts(s, n, width, depth, cells).ok {
-        return Ran { ok: true };
+    if parts(s, n, width, depth, cells).is_ok() {
+        return Ok(());
     }
-    put_back(before, cells);
-    Ran { ok: false }
-}
-
-fn put_back(before: Cells, cells: &mut Cells)
-    ensures { cells.new ≡ before }
-{
     *cells = before;
+    Err(Fails)
 }
 
 // Runs the `n` operations that `s` begins with one after another, up to the first that fails: the cells are then as
 // those before it left them.
 #[cycle(atomic_either_operation_parts)]
-fn parts(s: &[u8], n: u8, width: usize, depth: usize, cells: &mut Cells) -> Ran
+fn parts(s: &[u8], n: u8, width: usize, depth: usize, cells: &mut Cells) -> Result<(), Fails>
     requires { width ≤ limits.cells }
-    ensures { RunsParts limits (read_op limits width depth) n s.now cells.old (did result.ok cells.new) }
+    ensures { RunsParts limits (read_op limits width depth) n s.now cells.old (did (is_ok result) cells.new) }
 {
     if n == 0 {
-        return Ran { ok: true };
+        return Ok(());
     }
-    if !operation(s, width, depth, cells).ok {
-        return Ran { ok: false };
-    }
-    match size::operation(s, width, depth) {
-        Size::Bytes(k) => parts(after(s, k), n - 1, width, depth, cells),
-        Size::Malformed => Ran { ok: false },
-    }
+    operation(s, width, depth, cells)?;
+    let first = size::operation(s, width, depth).ok_or(Fails)?;
+    parts(after(s, first), n - 1, width, depth, cells)
 }
 
 // Runs the first of the two operations that `s` begins with, and where it fails the second, on the same cells.
 #[cycle(atomic_either_operation_parts)]
-fn either(s: &[u8], width: usize, depth: usize, cells: &mut Cells) -> Ran
+fn either(s: &[u8], width: usize, depth: usize, cells: &mut Cells) -> Result<(), Fails>
     requires { width ≤ limits.cells }
-    ensures { RunsEither limits (read_op limits width depth) s.now cells.old (did result.ok cells.new) }
+    ensures { RunsEither limits (read_op limits width depth) s.now cells.old (did (is_ok result) cells.new) }
 {
-    if operation(s, width, depth, cells).ok {
-        return Ran { ok: true };
+    if operation(s, width, depth, cells).is_ok() {
+        return Ok(());
     }
-    match size::operation(s, width, depth) {
-        Size::Bytes(k) => operation(after(s, k), width, depth, cells),
-        Size::Malformed => Ran { ok: false },
-    }
+    let first = size::operation(s, width, depth).ok_or(Fails)?;
+    operation(after(s, first), width, depth, cells)
 }

@@ -2,10 +2,9 @@
 // line on which the code gives something else, and how many agree and differ.
 #![tactic(auto)]
 
-ghost use Rattle.std.specs.Prelude.{◌≤◌, IfOk};
-
 use std::rt::Files;
 use std::{fs, io};
+use trial::Lines;
 
 // One byte of the buffer is left over, so that a longer file is not taken for its first part.
 const MOST: usize = 65_535;
@@ -23,32 +22,29 @@ fn agrees(line: &[u8]) -> bool {
     }
     let mut out = [0u8; trial::ANSWER];
     let n = trial::answer(&line[..at - 2], &mut out);
-    check::same(&out[..n], &line[at + 2..])
+    &out[..n] == &line[at + 2..]
 }
 
-// 1 for a line that agrees; any other is written, and counts 0.
-fn tally(rt: &impl Print, line: &[u8]) -> io::Result<u64>
-    ensures { IfOk result (λ n. n ≤ 1) }
-{
+// Whether a line agrees; one that does not is written.
+fn check_line(rt: &impl Print, line: &[u8]) -> io::Result<bool> {
     if agrees(line) {
-        return Ok(1);
+        return Ok(true);
     }
     rt.write_all(b"differs: ")?;
     rt.write_all(line)?;
     rt.write_all(b"\n")?;
-    Ok(0)
+    Ok(false)
 }
 
 // Counts the lines of `text`, and writes how many agree and differ.
 fn tally_all(rt: &impl Print, name: &str, text: &[u8]) -> io::Result<()> {
     let mut lines: u64 = 0;
     let mut agree: u64 = 0;
-    let mut at = 0;
-    while at < text.len() {
-        let end = trial::line_end(text, at);
-        agree += tally(rt, &text[at..end])?;
+    for line in Lines(text) {
         lines += 1;
-        at = end + 1;
+        if check_line(rt, line)? {
+            agree += 1;
+        }
     }
     println!(rt; "{name}: {agree} agree, {} differ", lines - agree)
 }

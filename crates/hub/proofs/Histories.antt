@@ -11,10 +11,7 @@ use lib.Dec.{ltb, eqb}
 use lib.ListN.{length, get_or, set, length-append, length-set, get_or-append}
 use lib.Seq.{get_or-set_same, get_or-set_other, get_or-append_seam, take-append-le, take-append_seam}
 use borrow.Author.Tests.{eq-eqb, ne_eqb, ltb-true, ltb-false, not-false}
-use Rattle.basics.specs.Answers.{number_of}
 use Rattle.std.specs.Prelude.{if◌then◌else◌}
-use Rattle.basics.specs.declared.Answer.{Answer}
-use Rattle.basics.specs.declared.Answer.TheVariants.{Done}
 use Rattle.basics.proofs.Choice.{by_cases, and_both}
 use Rattle.operation.specs.Limits.{Limits}
 use Rattle.operation.specs.Reading.{well_formed}
@@ -24,10 +21,10 @@ use Rattle.state.specs.Numbers.{most_machines, most_issued}
 use Rattle.hub.specs.Ring.{most_kept, next_of, decided, record_of, record_at}
 use Rattle.hub.specs.Shape.{shaped}
 use Rattle.hub.specs.Submitting.{ran, taken, submit_known, submit_of}
+use Rattle.hub.specs.Telling.{Submitted}
 use Rattle.hub.specs.History.{Decision, no_decision, count_of, cells_after, entry_of, HasDecided}
 use Rattle.hub.specs.declared.Hub.{Hub}
 use Rattle.hub.specs.declared.Record.{Record}
-use Rattle.hub.specs.declared.Submitted.{Submitted}
 use Rattle.hub.proofs.Totals.{total_grows}
 use Rattle.hub.proofs.InShape.{good}
 use Rattle.hub.proofs.KeptRing.{at_new, at_other}
@@ -130,18 +127,18 @@ module _ (l : Limits) (first : List ℕ) (history : List Decision) (h : Hub) (of
 -- what a submission does to the history
 pub record Stepped (l : Limits) (first : List ℕ) (history : List Decision) (h : Hub) (m : ℕ) (op : List ℕ)
     (r : Submitted) : Type 0 where
-  pub taken_one : r.answer ≡ Done → HasDecided l first (history ++ (record { machine = m; op = op } ∷ [])) r.hub
-  pub numbered_so : r.answer ≡ Done → r.number ≡ length history
-  pub refused_none : (r.answer ≡ Done → ⊥) → r.hub ≡ h
+  pub taken_one : r.answer ≡ 0 → HasDecided l first (history ++ (record { machine = m; op = op } ∷ [])) r.hub
+  pub numbered_so : r.answer ≡ 0 → r.number ≡ length history
+  pub refused_none : (r.answer ≡ 0 → ⊥) → r.hub ≡ h
 
 module _ (l : Limits) (first : List ℕ) (history : List Decision) (h : Hub) (of : HasDecided l first history h)
     (m number : ℕ) (op : List ℕ) where
   abbrev Steps : Submitted → Type 0
   Steps r = Stepped l first history h m op r
 
-  refused : (a : Answer) → 0 < number_of a → Steps (record { answer = a; outcome = 0; number = 0; hub = h })
-  refused a k =
-      let no : a ≡ Done → ⊥ = λ e. let z : number_of a ≡ 0 = ap number_of e in omega (arith, z, k) in
+  refused : (k : ℕ) → 0 < k → Steps (record { answer = k; outcome = 0; number = 0; hub = h })
+  refused k a =
+      let no : k ≡ 0 → ⊥ = λ e. omega (arith, e, a) in
       record { taken_one = λ e. absurd (no e); numbered_so = λ e. absurd (no e); refused_none = λ _. refl }
 
   took : m < most_machines → number ≡ next_of h m → Steps (taken l h m number op (ran l h op))

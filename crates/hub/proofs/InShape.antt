@@ -1,18 +1,17 @@
 -- Laws of good shape: which tests decide each part, and what a hub in shape is known to hold. Assumes nothing.
 use Prim.Native.Nat.{ℕ, ◌%◌, ◌≤◌, ◌<◌}
 use native.Mathlib.Omega.{arith}
-use mathlib.Core.Bool.{Bool, true, false}
+use mathlib.Core.Bool.{true}
 use mathlib.Core.Path.{◌≡◌, sym, subst, ◌∙◌}
 use lib.Dec.{ltb}
 use lib.ListN.{get_or}
-use borrow.Author.Tests.{lt-ltb, le-ltb, eq-eqb, ne_eqb, ltb-true}
+use borrow.Author.Tests.{lt-ltb, le-ltb, ltb-true}
 use Rattle.basics.specs.Counts.{counts}
 use Rattle.basics.proofs.Choice.{and_both}
 use Rattle.basics.proofs.Every.{every_at}
 use Rattle.operation.specs.Limits.{Limits}
 use Rattle.effect.specs.Replaying.{Sound}
 use Rattle.state.specs.Numbers.{most_issued}
-use Rattle.state.specs.Holding.{holds, blank}
 use Rattle.state.proofs.InSize.{Sizes, sizes as in_size, are_sizes}
 use Rattle.state.proofs.Holding.{held_sound}
 use Rattle.hub.specs.Ring.{most_kept, total, no_record, record_at}
@@ -20,37 +19,14 @@ use Rattle.hub.specs.Shape.{record_good, record_blank, place_good, ring_good, nu
 use Rattle.hub.specs.declared.Hub.{Hub}
 use Rattle.hub.specs.declared.Record.{Record}
 
-module _ (l : Limits) (machines width : ℕ) (r : Record) where
-  pub no_such_machine : machines ≤ r.machine → false ≡ record_good l machines width r
-  unfolding record_good
-  no_such_machine h = simp (le-ltb r.machine machines h)
+module _ (l : Limits) (machines width : ℕ) (r : Record) (n i : ℕ) where
+  pub place_below : i < n → place_good l machines width n i r ≡ record_good l machines width r
+  unfolding place_good
+  place_below h = simp (lt-ltb i n h)
 
-  pub by_operation : (t : Bool) → r.machine < machines → t ≡ holds l width r.op → t ≡ record_good l machines
-      width r
-  unfolding record_good
-  by_operation t h e = e ∙ simp (lt-ltb r.machine machines h)
-
-  module _ (n i : ℕ) where
-    pub place_below : i < n → place_good l machines width n i r ≡ record_good l machines width r
-    unfolding place_good
-    place_below h = simp (lt-ltb i n h)
-
-    pub place_past : n ≤ i → place_good l machines width n i r ≡ record_blank r
-    unfolding place_good
-    place_past h = simp (le-ltb i n h)
-
-module _ (r : Record) where
-  pub has_machine : (r.machine ≡ 0 → ⊥) → false ≡ record_blank r
-  unfolding record_blank
-  has_machine h = simp (ne_eqb r.machine 0 h)
-
-  pub has_number : r.machine ≡ 0 → (r.number ≡ 0 → ⊥) → false ≡ record_blank r
-  unfolding record_blank
-  has_number e h = simp (eq-eqb r.machine 0 e, ne_eqb r.number 0 h)
-
-  pub by_blank : (t : Bool) → r.machine ≡ 0 → r.number ≡ 0 → t ≡ blank r.op → t ≡ record_blank r
-  unfolding record_blank
-  by_blank t e f g = g ∙ simp (eq-eqb r.machine 0 e, eq-eqb r.number 0 f)
+  pub place_past : n ≤ i → place_good l machines width n i r ≡ record_blank r
+  unfolding place_good
+  place_past h = simp (le-ltb i n h)
 
 -- what a hub in shape is known to hold
 pub record Good (l : Limits) (h : Hub) : Type 0 where

@@ -1,9 +1,9 @@
 -- What submit leaves is in shape again. Assumes nothing.
 use Prim.Native.Nat.{ℕ, ◌+◌, ◌%◌, ◌<◌}
 use native.Mathlib.Omega.{arith}
-use mathlib.Core.Bool.{true, not, ◌&&◌}
+use mathlib.Core.Bool.{Bool, true, not, ◌&&◌}
 use mathlib.Core.List.{List}
-use mathlib.Core.Path.{◌≡◌, sym, subst}
+use mathlib.Core.Path.{◌≡◌, sym, ap, subst, ◌∙◌}
 use lib.Dec.{ltb}
 use lib.ListN.{length, set}
 use borrow.Author.Tests.{ltb-true, ltb-false, not-false}
@@ -11,17 +11,19 @@ use Rattle.basics.proofs.Choice.{by_cases, and_both}
 use Rattle.operation.specs.Limits.{Limits}
 use Rattle.operation.specs.Reading.{well_formed}
 use Rattle.effect.specs.Replaying.{after}
+use Rattle.effect.specs.Running.{did}
 use Rattle.effect.proofs.Keeping.{after_keeps}
 use Rattle.state.specs.Numbers.{most_machines, most_issued}
 use Rattle.state.proofs.KeptCounts.{counts_kept, counts_set}
 use Rattle.hub.specs.Ring.{most_kept, next_of, total, decided, record_of}
 use Rattle.hub.specs.Shape.{shaped, ring_good}
 use Rattle.hub.specs.Submitting.{ran, taken, submit_known, submit_of}
+use Rattle.hub.specs.Telling.{Submitted}
 use Rattle.hub.specs.declared.Hub.{Hub}
 use Rattle.hub.specs.declared.Record.{Record}
-use Rattle.hub.specs.declared.Submitted.{Submitted}
 use Rattle.hub.proofs.Totals.{total_grows}
 use Rattle.hub.proofs.InShape.{Good, good, is_shaped}
+use Rattle.hub.proofs.Submitting.{is_next}
 use Rattle.hub.proofs.KeptRing.{ring_kept, numbers_kept}
 
 -- how long the arrays of a hub are
@@ -71,15 +73,17 @@ module _ (l : Limits) (h : Hub) (sized : Sized h) (machine : ℕ) (op : List ℕ
       Keeps : Submitted → Type 0
       Keeps r = shaped l r.hub ≡ true
 
-  -- what a known submit answers leaves the state in shape
+  -- an operation that has been run on the cells and is taken: what submit tells, and the state is in shape
   pub submit_known_leaves :
       (number : ℕ) → shaped l h ≡ true → machine < h.machines → number < most_issued →
-      well_formed l h.width op ≡ true → (r : Submitted) → r ≡ submit_known l h machine number op →
+      well_formed l h.width op ≡ true → number ≡ next_of h machine → (ok ran_ok : Bool) (cells : List ℕ) → ok ≡ ran_ok →
+      did ran_ok cells ≡ ran l h op → (r : Submitted) →
+      r ≡ taken l (record h { cells = cells }) machine number op (did ok cells) →
       (r ≡ submit_known l h machine number op) × (shaped l r.hub ≡ true)
-  submit_known_leaves number s a b w r e = (
-    e,
-    subst (λ (x : Submitted). shaped l x.hub ≡ true) (sym e) (submit_known_keeps number s a b w),
-  )
+  unfolding taken
+  submit_known_leaves number s a b w i ok ran_ok cells t e r f =
+      let p = f ∙ is_next l h machine number op (did ok cells) i (ap (λ k. did k cells) t ∙ e) in
+      (p, subst (λ (x : Submitted). shaped l x.hub ≡ true) (sym p) (submit_known_keeps number s a b w))
 
   pub submit_keeps : (number : ℕ) → shaped l h ≡ true → shaped l (submit_of l h machine number op).hub ≡ true
   unfolding submit_of

@@ -2,7 +2,6 @@
 pub mod Totals
 pub mod Numbering
 pub mod InShape
-pub mod Starting
 pub mod Submitting
 pub mod Fetching
 pub mod Copying

@@ -1,10 +1,11 @@
--- Laws of submitting, by each way out. Assumes nothing.
+-- Laws of submitting: a call out of range, one that is none, and an operation that is next. Assumes nothing.
 use Prim.Native.Nat.{ℕ, ◌≤◌, ◌<◌}
-use mathlib.Core.Bool.{true, false}
+use native.Mathlib.Omega.{arith}
+use mathlib.Core.Bool.{true}
 use mathlib.Core.List.{List}
 use mathlib.Core.Path.{◌≡◌}
 use borrow.Author.Tests.{lt-ltb, le-ltb}
-use Rattle.basics.specs.declared.Answer.TheVariants.{OutOfShape, OutOfRange, Malformed, Old, Early}
+use Rattle.basics.specs.declared.Refusal.TheVariants.{OutOfRange}
 use Rattle.operation.specs.Limits.{Limits}
 use Rattle.operation.specs.Reading.{well_formed}
 use Rattle.effect.specs.Running.{Came}
@@ -15,10 +16,6 @@ use Rattle.hub.specs.Submitting.{not_submitted, ran, taken, submit_known, submit
 use Rattle.hub.specs.declared.Hub.{Hub}
 
 module _ (l : Limits) (h : Hub) (machine number : ℕ) (op : List ℕ) where
-  pub submit_shape : shaped l h ≡ false → not_submitted OutOfShape h ≡ submit_of l h machine number op
-  unfolding submit_of
-  submit_shape e = rw e
-
   module _ (in-shape : shaped l h ≡ true) where
     pub no_machine : h.machines ≤ machine → not_submitted OutOfRange h ≡ submit_of l h machine number op
     unfolding submit_of
@@ -30,27 +27,15 @@ module _ (l : Limits) (h : Hub) (machine number : ℕ) (op : List ℕ) where
       no_number e = simp (in-shape, lt-ltb machine h.machines a, le-ltb number most_issued e)
 
       module _ (b : number < most_issued) where
-        pub submit_malformed :
-            well_formed l h.width op ≡ false → not_submitted Malformed h ≡ submit_of l h machine number op
-        unfolding submit_of
-        submit_malformed e = simp (in-shape, lt-ltb machine h.machines a, lt-ltb number most_issued b, e)
-
         pub submit_known_lem :
             well_formed l h.width op ≡ true → submit_known l h machine number op ≡ submit_of l h machine number op
         unfolding submit_of
         submit_known_lem e = simp (in-shape, lt-ltb machine h.machines a, lt-ltb number most_issued b, e)
 
-  pub is_old : number < next_of h machine → not_submitted Old h ≡ submit_known l h machine number op
+  pub is_next :
+      (q : Came) → number ≡ next_of h machine → q ≡ ran l h op →
+      taken l h machine number op q ≡ submit_known l h machine number op
   unfolding submit_known
-  is_old e = simp (lt-ltb number (next_of h machine) e)
-
-  module _ (a : next_of h machine ≤ number) where
-    pub is_early : next_of h machine < number → not_submitted Early h ≡ submit_known l h machine number op
-    unfolding submit_known
-    is_early e = simp (le-ltb number (next_of h machine) a, lt-ltb (next_of h machine) number e)
-
-    pub is_next :
-        (q : Came) → number ≤ next_of h machine → q ≡ ran l h op →
-        taken l h machine number op q ≡ submit_known l h machine number op
-    unfolding submit_known
-    is_next q b e = rw e (simp (le-ltb number (next_of h machine) a, le-ltb (next_of h machine) number b))
+  is_next q i e =
+      rw e
+      (simp (le-ltb number (next_of h machine) (omega (arith, i)), le-ltb (next_of h machine) number (omega (arith, i))))

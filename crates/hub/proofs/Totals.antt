@@ -5,9 +5,12 @@ use native.Mathlib.Omega.{arith}
 use mathlib.Core.Bool.{true}
 use mathlib.Core.List.{List}
 use mathlib.Core.Logic.{⊎_elim}
-use mathlib.Core.Path.{◌≡◌, refl}
-use lib.ListN.{length, get_or, set}
-use lib.Seq.{get_or-set_same, get_or-set_other}
+use mathlib.Core.Path.{◌≡◌, refl, sym, ap, ◌∙◌}
+use lib.ListN.{length, get_or, set, take}
+use lib.Seq.{take_all, get_or-set_same, get_or-set_other}
+use native.Mathlib.Numerals.{add-one}
+use Rattle.std.specs.Prelude.{sum}
+use Rattle.std.proofs.lemmas.List.Sums.{sum_by_more}
 use Rattle.basics.specs.Counts.{counts}
 use Rattle.basics.specs.Sums.{sum_to}
 use Rattle.basics.proofs.Counts.{count_most}
@@ -15,10 +18,18 @@ use Rattle.basics.proofs.Sums.{sum_most}
 use Rattle.state.specs.Numbers.{most_machines, most_issued, most_decided}
 use Rattle.hub.specs.Ring.{total}
 
--- a loop that has added them all
-pub total_end : (next : List ℕ) (sum : ℕ) → sum ≡ sum_to most_machines (λ m. get_or next m 0) → sum ≡ total next
+-- the sum of the elements is that over every index
+sum_first : (xs : List ℕ) (k : ℕ) → k ≤ length xs → sum (take k xs) ≡ sum_to k (λ m. get_or xs m 0)
+unfolding sum_to
+sum_first xs zero h = refl
+sum_first xs (suc k) h =
+    let e = rw add-one at (sum_by_more (λ x. x) xs k 0 (omega arith)) in
+    e ∙ ap (λ n. n + get_or xs k 0) (sum_first xs k (omega arith))
+
+pub sum_total : (next : List ℕ) → length next ≡ most_machines → sum next ≡ total next
 unfolding total
-total_end next sum e = e
+sum_total next sized =
+    ap sum (sym (take_all most_machines next (omega (arith, sized)))) ∙ sum_first next most_machines (omega (arith, sized))
 
 pub total_most :
     (next : List ℕ) (machines : ℕ) → length next ≡ most_machines → counts next machines most_issued ≡ true →

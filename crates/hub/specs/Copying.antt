@@ -1,20 +1,21 @@
 -- Copy for a machine. Refusals in the paper's order: 1, 9, 8. Assumes nothing: these are definitions.
 use Rattle.std.specs.Prelude.{ℕ, not, ◌&&◌, List, ltb, leb, length, if◌then◌else◌}
 use Rattle.basics.specs.Over.{over}
-use Rattle.basics.specs.declared.Answer.{Answer}
-use Rattle.basics.specs.declared.Answer.TheVariants.{Done, OutOfShape, OutOfRange, BufferTooShort}
+use Rattle.basics.specs.Refusals.{number_of}
+use Rattle.basics.specs.declared.Refusal.{Refusal}
+use Rattle.basics.specs.declared.Refusal.TheVariants.{OutOfShape, OutOfRange, BufferTooShort}
 use Rattle.operation.specs.Limits.{Limits}
 use Rattle.hub.specs.Ring.{next_of, decided}
 use Rattle.hub.specs.Shape.{shaped}
+use Rattle.hub.specs.Telling.{Copied}
 use Rattle.hub.specs.declared.Hub.{Hub}
-use Rattle.hub.specs.declared.Copied.{Copied}
 
-abbrev pub not_copied : Answer → Copied
-not_copied answer = record { answer = answer; position = 0; decided = 0 }
+abbrev pub not_copied : Refusal → Copied
+not_copied r = record { answer = number_of r; position = 0; decided = 0 }
 
 -- the hub's position, and how many operations of the machine it has decided
 abbrev pub copied : Hub → ℕ → Copied
-copied h machine = record { answer = Done; position = decided h; decided = next_of h machine }
+copied h machine = record { answer = 0; position = decided h; decided = next_of h machine }
 
 -- where the buffer has room for so many numbers
 unfoldable pub copy_known : Limits → Hub → ℕ → ℕ → Copied

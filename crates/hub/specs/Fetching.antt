@@ -1,20 +1,21 @@
 -- Fetch record n. Refusals in the paper's order: 1, 14, 15, 8. Assumes nothing: these are definitions.
 use Rattle.std.specs.Prelude.{ℕ, ◌+◌, Bool, not, ◌&&◌, List, ltb, leb, length, if◌then◌else◌}
 use Rattle.basics.specs.Over.{over}
-use Rattle.basics.specs.declared.Answer.{Answer}
-use Rattle.basics.specs.declared.Answer.TheVariants.{Done, OutOfShape, NotDecided, NotKept, BufferTooShort}
+use Rattle.basics.specs.Refusals.{number_of}
+use Rattle.basics.specs.declared.Refusal.{Refusal}
+use Rattle.basics.specs.declared.Refusal.TheVariants.{OutOfShape, NotDecided, NotKept, BufferTooShort}
 use Rattle.operation.specs.Limits.{Limits}
 use Rattle.hub.specs.Ring.{most_kept, decided, record_at}
 use Rattle.hub.specs.Shape.{shaped}
+use Rattle.hub.specs.Telling.{Fetched}
 use Rattle.hub.specs.declared.Hub.{Hub}
-use Rattle.hub.specs.declared.Fetched.{Fetched}
 use Rattle.hub.specs.declared.Record.{Record}
 
-abbrev pub not_fetched : Answer → Fetched
-not_fetched answer = record { answer = answer; machine = 0; number = 0; len = 0 }
+abbrev pub not_fetched : Refusal → Fetched
+not_fetched r = record { answer = number_of r; machine = 0; number = 0; len = 0 }
 
 abbrev pub fetched : Record → Fetched
-fetched r = record { answer = Done; machine = r.machine; number = r.number; len = r.op.len }
+fetched r = record { answer = 0; machine = r.machine; number = r.number; len = r.op.len }
 
 -- where the buffer has room for so many bytes
 unfoldable pub fetch_known : Limits → Hub → ℕ → ℕ → Fetched

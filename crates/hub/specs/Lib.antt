@@ -1,6 +1,7 @@
 -- The hub, in the paper's words. Read in this order.
 pub mod Ring
 pub mod Shape
+pub mod Telling
 pub mod Starting
 pub mod Submitting
 pub mod Fetching

@@ -1,19 +1,20 @@
 -- Submit. Refusals in the paper's order: 1, 9, 2, 10, 11. Assumes nothing: these are definitions.
 use Rattle.std.specs.Prelude.{ℕ, ◌+◌, ◌%◌, ◌≤◌, ◌<◌, true, not, ◌&&◌, List, ◌≡◌, ltb, length, set, if◌then◌else◌}
 use Rattle.basics.specs.Counts.{counts}
-use Rattle.basics.specs.declared.Answer.{Answer}
-use Rattle.basics.specs.declared.Answer.TheVariants.{Done, OutOfShape, OutOfRange, Malformed, Old, Early}
+use Rattle.basics.specs.Refusals.{number_of}
+use Rattle.basics.specs.declared.Refusal.{Refusal}
+use Rattle.basics.specs.declared.Refusal.TheVariants.{OutOfShape, OutOfRange, Malformed, Old, Early}
 use Rattle.operation.specs.Limits.{Limits}
 use Rattle.operation.specs.Reading.{well_formed}
 use Rattle.effect.specs.Running.{outcome, Came, came, bit}
 use Rattle.state.specs.Numbers.{most_machines, most_issued}
 use Rattle.hub.specs.Ring.{most_kept, next_of, decided, record_of}
 use Rattle.hub.specs.Shape.{shaped}
+use Rattle.hub.specs.Telling.{Submitted}
 use Rattle.hub.specs.declared.Hub.{Hub}
-use Rattle.hub.specs.declared.Submitted.{Submitted}
 
-abbrev pub not_submitted : Answer → Hub → Submitted
-not_submitted answer h = record { answer = answer; outcome = 0; number = 0; hub = h }
+abbrev pub not_submitted : Refusal → Hub → Submitted
+not_submitted r h = record { answer = number_of r; outcome = 0; number = 0; hub = h }
 
 -- the operation run on the cells, success or not
 abbrev pub ran : Limits → Hub → List ℕ → Came
@@ -22,7 +23,7 @@ ran l h op = came h.cells (outcome l h.width op h.cells)
 -- next grows, and it becomes the newest record; with 256 kept, the oldest goes
 unfoldable pub taken : Limits → Hub → ℕ → ℕ → List ℕ → Came → Submitted
 taken l h machine number op came = record {
-  answer = Done;
+  answer = 0;
   outcome = bit came.ok;
   number = decided h;
   hub = record {

@@ -7,17 +7,11 @@ ghost use Rattle.hub.specs.Ring.{most_kept, kept_count, total as total_of};
 use crate::{Hub, Next};
 
 // How many operations are decided: the sum of all next.
-pub fn total(next: Next, machines: usize) -> u64
-    requires { counts next machines most_issued ≡ true }
-    ensures { (result ≡ total_of next) × (result ≤ most_decided) }
+pub fn total(next: &Next, machines: usize) -> u64
+    requires { counts next.now machines most_issued ≡ true }
+    ensures { (result ≡ total_of next.now) × (result ≤ most_decided) }
 {
-    let mut sum: u64 = 0;
-    let mut i: usize = 0;
-    while i < Hub::MACHINES {
-        sum += next[i];
-        i += 1;
-    }
-    sum
+    next.iter().sum()
 }
 
 // The place of record `n`.
@@ -31,9 +25,5 @@ pub fn slot(n: u64) -> usize
 pub fn kept(decided: u64) -> u64
     ensures { result ≡ kept_count decided }
 {
-    if decided < Hub::KEPT as u64 {
-        decided
-    } else {
-        Hub::KEPT as u64
-    }
+    decided.min(Hub::KEPT as u64)
 }

@@ -1,5 +1,6 @@
 // The parts of the hub's good shape.
 ghost use Rattle.std.specs.Prelude.{◌≡◌};
+ghost use Rattle.std.specs.List.{list_all, enumerate_from};
 ghost use Rattle.basics.specs.Counts.{counts};
 ghost use Rattle.operation.specs.Limits.{limits};
 ghost use Rattle.state.specs.Numbers.{most_issued};
@@ -8,74 +9,65 @@ ghost use Rattle.hub.specs.Shape.{record_good, record_blank, place_good, ring_go
 
 use crate::ring::{kept, slot};
 use crate::{Hub, Next, Record, Records};
-use basics::{are_numbers, index};
+use basics::are_counts;
 
-pub fn next(next: Next, machines: usize) -> bool
-    ensures { result ≡ counts next machines most_issued }
+pub fn next(next: &Next, machines: usize) -> bool
+    ensures { result ≡ counts next.now machines most_issued }
 {
-    are_numbers(&next, machines, Hub::ISSUED)
+    are_counts(next, machines, Hub::ISSUED)
 }
 
 // Each place below the number of decided operations holds a record, and each later one none.
-pub fn ring(records: Records, machines: usize, width: usize, decided: u64) -> bool
-    ensures { result ≡ ring_good limits machines width decided records }
+pub fn ring(records: &Records, machines: usize, width: usize, decided: u64) -> bool
+    ensures { result ≡ ring_good limits machines width decided records.now }
 {
-    let mut i: usize = 0;
-    while i < Hub::KEPT {
-        if !place(records[i], i, machines, width, decided) {
-            return false;
-        }
-        i += 1;
-    }
-    true
+    places(records, machines, width, decided)
 }
 
-fn place(r: Record, i: usize, machines: usize, width: usize, decided: u64) -> bool
-    ensures { result ≡ place_good limits machines width decided i r }
+// The same, said as the chain goes.
+fn places(records: &[Record], machines: usize, width: usize, decided: u64) -> bool
+    ensures { result ≡ list_all (λ p. place_good limits machines width decided p.0 p.1) (enumerate_from 0 records.now) }
+{
+    records
+        .iter()
+        .enumerate()
+        .all(|(i, r)| place(r, i, machines, width, decided))
+}
+
+#[tactic(auto, unfolding(crate::specs::Shape::place_good))]
+fn place(r: &Record, i: usize, machines: usize, width: usize, decided: u64) -> bool
+    ensures { result ≡ place_good limits machines width decided i r.now }
 {
     if (i as u64) < decided {
-        return holds(r, machines, width);
+        holds(r, machines, width)
+    } else {
+        blank(r)
     }
-    blank(r)
 }
 
-fn holds(r: Record, machines: usize, width: usize) -> bool
-    ensures { result ≡ record_good limits machines width r }
+#[tactic(auto, unfolding(crate::specs::Shape::record_good))]
+fn holds(r: &Record, machines: usize, width: usize) -> bool
+    ensures { result ≡ record_good limits machines width r.now }
 {
-    if machines <= index(r.machine) {
-        return false;
-    }
-    let o = r.op;
-    state::holds(o, width)
+    usize::from(r.machine) < machines && state::holds(&r.op, width)
 }
 
-fn blank(r: Record) -> bool
-    ensures { result ≡ record_blank r }
+#[tactic(auto, unfolding(crate::specs::Shape::record_blank))]
+fn blank(r: &Record) -> bool
+    ensures { result ≡ record_blank r.now }
 {
-    if r.machine != 0 {
-        return false;
-    }
-    if r.number != 0 {
-        return false;
-    }
-    let o = r.op;
-    state::blank(o)
+    r.machine == 0 && r.number == 0 && state::blank(&r.op)
 }
 
 // The kept records from the newest back: each is numbered one below what is left of its machine's numbers.
-pub fn numbers(next: Next, records: Records, decided: u64) -> bool
-    requires { decided ≡ total_of next }
-    ensures { result ≡ numbers_good next records }
+pub fn numbers(next: &Next, records: &Records, decided: u64) -> bool
+    requires { decided ≡ total_of next.now }
+    ensures { result ≡ numbers_good next.now records.now }
 {
-    let mut left = next;
-    let mut k = kept(decided);
-    let mut n = decided;
-    while 0 < k {
-        n -= 1;
-        k -= 1;
-        let at = slot(n);
-        let r = records[at];
-        let m = index(r.machine);
+    let mut left = *next;
+    for n in (decided - kept(decided)..decided).rev() {
+        let r = &records[slot(n)];
+        let m = usize::from(r.machine);
         if Hub::MACHINES <= m {
             return false;
         }

@@ -1,34 +1,26 @@
 // The fresh hub.
+use basics::Refusal;
 use hub::Hub;
 use std::io;
 
 pub fn walk(rt: &impl Print) -> io::Result<()> {
-    report::words(
-        rt,
-        b"Fresh hub: 17 if a size or a first count is out of range\n",
-    )?;
-    let one = [999_999u32];
-    tried(rt, b"1 machine, count 999999", 1, &one)?;
-    let most = [7u32; 64];
-    tried(rt, b"40 machines, 64 counts", 40, &most)?;
-    tried(rt, b"no machine", 0, &one)?;
-    tried(rt, b"41 machines", 41, &one)?;
-    tried(rt, b"no count", 1, &one[..0])?;
-    let more = [7u32; 65];
-    tried(rt, b"65 counts", 1, &more)?;
-    let large = [1_000_000u32];
-    tried(rt, b"count 1000000", 1, &large)
+    rt.println("Fresh hub: 17 if a size or a first count is out of range")?;
+    tried(rt, "1 machine, count 999999", 1, &[999_999])?;
+    tried(rt, "40 machines, 64 counts", 40, &[7; 64])?;
+    tried(rt, "no machine", 0, &[999_999])?;
+    tried(rt, "41 machines", 41, &[999_999])?;
+    tried(rt, "no count", 1, &[])?;
+    tried(rt, "65 counts", 1, &[7; 65])?;
+    tried(rt, "count 1000000", 1, &[1_000_000])
 }
 
 // The line of one start. What a bad start hands back is itself out of shape.
-fn tried(rt: &impl Print, what: &[u8], machines: usize, first: &[u32]) -> io::Result<()> {
+fn tried(rt: &impl Print, what: &str, machines: usize, first: &[u32]) -> io::Result<()> {
     report::case(rt, what)?;
     let made = Hub::fresh(machines, first);
-    let answer = made.answer;
-    report::answer(rt, answer)?;
-    report::words(rt, b", then submit:")?;
-    let submitted = made.hub.submit(0, 0, b"\x10\x00");
-    let then = submitted.answer;
-    report::answer(rt, then)?;
-    report::words(rt, b"\n")
+    report::answer(rt, made.map_err(|_| Refusal::BadStart))?;
+    rt.print(", then submit:")?;
+    let mut h = made.unwrap_or_else(|bad| bad.zero);
+    report::answer(rt, h.submit(0, 0, b"\x10\x00"))?;
+    rt.println("")
 }

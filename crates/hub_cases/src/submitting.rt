@@ -4,22 +4,19 @@ use hub::Hub;
 use std::io;
 
 pub fn walk(rt: &impl Print) -> io::Result<()> {
-    report::words(
-        rt,
-        b"Submit: 1 out of shape, 9 out of range, 2 malformed, 10 old, 11 early\n",
-    )?;
-    report::words(rt, b"  (10 and 11 cannot both be there)\n")?;
+    rt.println("Submit: 1 out of shape, 9 out of range, 2 malformed, 10 old, 11 early")?;
+    rt.println("  (10 and 11 cannot both be there)")?;
     taken(rt)?;
     refused(rt)
 }
 
 fn taken(rt: &impl Print) -> io::Result<()> {
     let h = hubs::after(4);
-    tried(rt, b"done, succeeds", h, 1, 1, b"\x04\x00\x01\x00\x03")?;
-    tried(rt, b"done, fails", h, 1, 1, b"\x04\x00\x01\x00\x06")?;
+    tried(rt, "done, succeeds", h, 1, 1, b"\x04\x00\x01\x00\x03")?;
+    tried(rt, "done, fails", h, 1, 1, b"\x04\x00\x01\x00\x06")?;
     tried(
         rt,
-        b"done, the last of a machine",
+        "done, the last of a machine",
         hubs::late(999_999_999),
         0,
         999_999_999,
@@ -29,52 +26,52 @@ fn taken(rt: &impl Print) -> io::Result<()> {
 
 fn refused(rt: &impl Print) -> io::Result<()> {
     let h = hubs::after(4);
-    tried(rt, b"1", hubs::out_of_shape(h), 1, 1, b"\x10\x00")?;
-    tried(rt, b"1 and 9", hubs::out_of_shape(h), 3, 1, b"\x10\x00")?;
-    tried(rt, b"9 by the machine", h, 3, 0, b"\x10\x00")?;
-    tried(rt, b"9 by the number", h, 1, 1_000_000_000, b"\x10\x00")?;
-    tried(rt, b"9 and 2", h, 3, 0, b"\x05")?;
-    tried(rt, b"2", h, 1, 1, b"\x05")?;
-    tried(rt, b"2 and 10", h, 1, 0, b"\x05")?;
-    tried(rt, b"2 and 11", h, 1, 2, b"\x05")?;
+    tried(rt, "1", hubs::out_of_shape(h), 1, 1, b"\x10\x00")?;
+    tried(rt, "1 and 9", hubs::out_of_shape(h), 3, 1, b"\x10\x00")?;
+    tried(rt, "9 by the machine", h, 3, 0, b"\x10\x00")?;
+    tried(rt, "9 by the number", h, 1, 1_000_000_000, b"\x10\x00")?;
+    tried(rt, "9 and 2", h, 3, 0, b"\x05")?;
+    tried(rt, "2", h, 1, 1, b"\x05")?;
+    tried(rt, "2 and 10", h, 1, 0, b"\x05")?;
+    tried(rt, "2 and 11", h, 1, 2, b"\x05")?;
     tried(
         rt,
-        b"10 with the bytes decided",
+        "10 with the bytes decided",
         h,
         1,
         0,
         b"\x02\x01\x00\x01",
     )?;
-    tried(rt, b"10 with others", h, 1, 0, b"\x10\x00")?;
+    tried(rt, "10 with others", h, 1, 0, b"\x10\x00")?;
     tried(
         rt,
-        b"10 at a next of 1000000000",
+        "10 at a next of 1000000000",
         hubs::late(1_000_000_000),
         0,
         999_999_999,
         b"\x10\x00",
     )?;
-    tried(rt, b"11", h, 1, 2, b"\x10\x00")
+    tried(rt, "11", h, 1, 2, b"\x10\x00")
 }
 
 // The line of one submission.
 fn tried(
     rt: &impl Print,
-    what: &[u8],
-    h: Hub,
+    what: &str,
+    mut h: Hub,
     machine: usize,
     number: u64,
     op: &[u8],
 ) -> io::Result<()> {
     report::case(rt, what)?;
+    let before = h;
     let submitted = h.submit(machine, number, op);
-    let answer = submitted.answer;
-    report::answer(rt, answer)?;
-    report::value(rt, b"outcome", submitted.outcome as u64)?;
-    report::value(rt, b"record", submitted.number)?;
-    if answer.number() == 0 {
-        hubs::tell(rt, submitted.hub)
-    } else {
-        report::state(rt, hubs::same(h, submitted.hub))
+    report::answer(rt, submitted)?;
+    let told = submitted.unwrap_or_default();
+    report::value(rt, "outcome", u8::from(told.succeeded))?;
+    report::value(rt, "record", told.number)?;
+    match submitted {
+        Ok(_) => hubs::tell(rt, &h),
+        Err(_) => report::state(rt, h == before),
     }
 }

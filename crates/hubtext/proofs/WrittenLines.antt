@@ -10,10 +10,11 @@ use Rattle.operation.specs.Limits.{Limits}
 use Rattle.lines.specs.Decimals.{decimal}
 use Rattle.lines.specs.Fields.{LF, field_of}
 use Rattle.lines.specs.Hex.{hex_of}
-use Rattle.lines.specs.Placing.{Puts}
+use Rattle.lines.specs.Pens.{Lays}
 use Rattle.lines.specs.Texts.{text_of}
 use Rattle.lines.proofs.Appending.{text_append, text_one, text_empty}
-use Rattle.lines.proofs.Laying.{puts_none, puts_more}
+use Rattle.lines.specs.declared.put.Pen.{Pen}
+use Rattle.lines.proofs.Laying.{lays_none, lays_more, lays_same}
 use Rattle.hub.specs.Ring.{decided, kept_count, record_at}
 use Rattle.hub.specs.History.{Decision}
 use Rattle.hub.specs.declared.Hub.{Hub}
@@ -37,17 +38,14 @@ module _ (l : Limits) where
   entry_text e = entry_line e [] ∙ sym (text_one (hub_form l) (entry e))
 
   -- no line yet, and one more
-  pub numbers_none : (b : List ℕ) (a : ℕ) (key xs : List ℕ) → Puts b b a a (text_of (hub_form l) (map (number key)
-      (take 0 xs)))
-  numbers_none b a key xs = subst (λ (z : List ℕ). Puts b b a a z) (sym (text_empty (hub_form l))) (puts_none b a)
+  pub numbers_none : (p : Pen) (key : List ℕ) → Lays p p (text_of (hub_form l) (map (number key) []))
+  numbers_none p key = lays_same (lays_none p) (sym (text_empty (hub_form l)))
 
   pub numbers_next :
-      (b0 b1 b2 : List ℕ) (a0 a1 a2 : ℕ) (key xs : List ℕ) (i v : ℕ) → i < length xs → v ≡ get_or xs i 0 →
-      Puts b0 b1 a0 a1 (text_of (hub_form l) (map (number key) (take i xs))) → Puts b1 b2 a1 a2 (field_of key LF v) →
-      Puts b0 b2 a0 a2 (text_of (hub_form l) (map (number key) (take (i + 1) xs)))
-  numbers_next b0 b1 b2 a0 a1 a2 key xs i v h e p q =
-      subst (λ (z : List ℕ). Puts b0 b2 a0 a2 z) longer
-      (puts_more b0 b1 b2 a0 a1 a2 (text_of (hub_form l) (map (number key) (take i xs))) (field_of key LF v) p q)
+      {p q r : Pen} (key xs : List ℕ) (i v : ℕ) → i < length xs → v ≡ get_or xs i 0 →
+      Lays p q (text_of (hub_form l) (map (number key) (take i xs))) → Lays q r (field_of key LF v) →
+      Lays p r (text_of (hub_form l) (map (number key) (take (i + 1) xs)))
+  numbers_next key xs i v h e a b = lays_same (lays_more a b) longer
     where
       longer :
           text_of (hub_form l) (map (number key) (take i xs)) ++ field_of key LF v ≡
@@ -58,13 +56,10 @@ module _ (l : Limits) where
 
   -- form, machines, cells
   pub head_lines :
-      (b0 b1 b2 b3 : List ℕ) (a0 a1 a2 a3 m w : ℕ) → Puts b0 b1 a0 a1 (field_of form= LF 1) →
-      Puts b1 b2 a1 a2 (field_of machines= LF m) → Puts b2 b3 a2 a3 (field_of cells= LF w) →
-      Puts b0 b3 a0 a3 (text_of (hub_form l) (number form= 1 ∷ number machines= m ∷ number cells= w ∷ []))
-  head_lines b0 b1 b2 b3 a0 a1 a2 a3 m w p q r =
-      subst (λ (z : List ℕ). Puts b0 b3 a0 a3 z) whole
-      (puts_more b0 b1 b3 a0 a1 a3 (field_of form= LF 1) (field_of machines= LF m ++ field_of cells= LF w) p
-      (puts_more b1 b2 b3 a1 a2 a3 (field_of machines= LF m) (field_of cells= LF w) q r))
+      {p q r t : Pen} (m w : ℕ) → Lays p q (field_of form= LF 1) → Lays q r (field_of machines= LF m) →
+      Lays r t (field_of cells= LF w) →
+      Lays p t (text_of (hub_form l) (number form= 1 ∷ number machines= m ∷ number cells= w ∷ []))
+  head_lines m w a b c = lays_same (lays_more a (lays_more b c)) whole
     where
       whole :
           field_of form= LF 1 ++ (field_of machines= LF m ++ field_of cells= LF w) ≡
@@ -87,54 +82,41 @@ module _ (l : Limits) where
       entries_from records (n + 1) i ++ (entry_of (record_at records k) ∷ [])) z (entries_more records (n + 1) i))
 
   pub entries_none :
-      (b : List ℕ) (a : ℕ) (records : List Record) (n : ℕ) →
-      Puts b b a a (text_of (hub_form l) (map entry (entries_from records n 0)))
+      (p : Pen) (records : List Record) (n : ℕ) →
+      Lays p p (text_of (hub_form l) (map entry (entries_from records n 0)))
   unfolding entries_from
-  entries_none b a records n = subst (λ (z : List ℕ). Puts b b a a z) (sym (text_empty (hub_form l))) (puts_none b a)
+  entries_none p records n = lays_same (lays_none p) (sym (text_empty (hub_form l)))
 
   pub entries_next :
-      (b0 b1 b2 : List ℕ) (a0 a1 a2 : ℕ) (records : List Record) (n i : ℕ) (r : Record) → r ≡ record_at records (n +
-      i) →
-      Puts b0 b1 a0 a1 (text_of (hub_form l) (map entry (entries_from records n i))) →
-      Puts b1 b2 a1 a2 (text_of (hub_form l) (entry (entry_of r) ∷ [])) →
-      Puts b0 b2 a0 a2 (text_of (hub_form l) (map entry (entries_from records n (i + 1))))
-  entries_next b0 b1 b2 a0 a1 a2 records n i r e p q =
-      subst (λ (z : List ℕ). Puts b0 b2 a0 a2 z) longer
-      (puts_more b0 b1 b2 a0 a1 a2 (text_of (hub_form l) (map entry (entries_from records n i)))
-      (text_of (hub_form l) (entry (entry_of r) ∷ [])) p q)
+      {p q r : Pen} (records : List Record) (n i : ℕ) (one : Record) → one ≡ record_at records (n + i) →
+      Lays p q (text_of (hub_form l) (map entry (entries_from records n i))) →
+      Lays q r (text_of (hub_form l) (entry (entry_of one) ∷ [])) →
+      Lays p r (text_of (hub_form l) (map entry (entries_from records n (i + 1))))
+  entries_next records n i one e a b = lays_same (lays_more a b) longer
     where
       longer :
-          text_of (hub_form l) (map entry (entries_from records n i)) ++ text_of (hub_form l) (entry (entry_of r) ∷ []) ≡
+          text_of (hub_form l) (map entry (entries_from records n i)) ++ text_of (hub_form l) (entry (entry_of one) ∷ []) ≡
           text_of (hub_form l) (map entry (entries_from records n (i + 1)))
       longer =
           rw (add-one, entries_more records n i, map-append, sym e)
-          (sym (text_append (hub_form l) (map entry (entries_from records n i)) (entry (entry_of r) ∷ [])))
+          (sym (text_append (hub_form l) (map entry (entries_from records n i)) (entry (entry_of one) ∷ [])))
 
   pub record_line :
-      (b0 b1 b2 b3 : List ℕ) (a0 a1 a2 a3 : ℕ) (e : Decision) → Puts b0 b1 a0 a1 (field_of rec= comma e.machine) →
-      Puts b1 b2 a1 a2 (hex_of e.op) → Puts b2 b3 a2 a3 (LF ∷ []) →
-      Puts b0 b3 a0 a3 (text_of (hub_form l) (entry e ∷ []))
-  record_line b0 b1 b2 b3 a0 a1 a2 a3 e p q r =
-      subst (λ (z : List ℕ). Puts b0 b3 a0 a3 z) (entry_text e)
-      (puts_more b0 b1 b3 a0 a1 a3 (field_of rec= comma e.machine) (hex_of e.op ++ (LF ∷ [])) p
-      (puts_more b1 b2 b3 a1 a2 a3 (hex_of e.op) (LF ∷ []) q r))
+      {p q r t : Pen} (e : Decision) → Lays p q (field_of rec= comma e.machine) → Lays q r (hex_of e.op) →
+      Lays r t (LF ∷ []) → Lays p t (text_of (hub_form l) (entry e ∷ []))
+  record_line e a b c = lays_same (lays_more a (lays_more b c)) (entry_text e)
 
   -- all of the text
   pub whole_text :
-      (b0 b1 b2 b3 b4 : List ℕ) (a1 a2 a3 a4 : ℕ) (h : Hub) (n k : ℕ) → n ≡ decided h → k ≡ kept_count n →
-      Puts b0 b1 0 a1
-      (text_of (hub_form l) (number form= 1 ∷ number machines= h.machines ∷ number cells= h.width ∷ [])) →
-      Puts b1 b2 a1 a2 (text_of (hub_form l) (map (number cell=) (take h.width h.cells))) →
-      Puts b2 b3 a2 a3 (text_of (hub_form l) (map (number next=) (take h.machines h.next))) →
-      Puts b3 b4 a3 a4 (text_of (hub_form l) (map entry (entries_from h.records (n - k) k))) →
-      Puts b0 b4 0 a4 (hub_text l h)
+      {p q r t u : Pen} (h : Hub) (n k : ℕ) → n ≡ decided h → k ≡ kept_count n →
+      Lays p q (text_of (hub_form l) (number form= 1 ∷ number machines= h.machines ∷ number cells= h.width ∷ [])) →
+      Lays q r (text_of (hub_form l) (map (number cell=) (take h.width h.cells))) →
+      Lays r t (text_of (hub_form l) (map (number next=) (take h.machines h.next))) →
+      Lays t u (text_of (hub_form l) (map entry (entries_from h.records (n - k) k))) → Lays p u (hub_text l h)
   unfolding values_of
-  whole_text b0 b1 b2 b3 b4 a1 a2 a3 a4 h n k e f p q r s =
-      subst (λ (z : List ℕ). Puts b0 b4 0 a4 z) (sym split)
-      (puts_more b0 b1 b4 0 a1 a4 (text_of (hub_form l) head) _ p
-      (puts_more b1 b2 b4 a1 a2 a4 (text_of (hub_form l) cells) _ q
-      (puts_more b2 b3 b4 a2 a3 a4 (text_of (hub_form l) nexts) (text_of (hub_form l) kept) r
-      (subst (λ (z : List Decision). Puts b3 b4 a3 a4 (text_of (hub_form l) (map entry z))) same s))))
+  whole_text h n k e f a b c d =
+      lays_same (lays_more a (lays_more b (lays_more c (lays_same d (ap (λ z. text_of (hub_form l) (map entry z)) same)))))
+      (sym split)
     where
       head : List Value
       head = number form= 1 ∷ number machines= h.machines ∷ number cells= h.width ∷ []

@@ -5,40 +5,22 @@ mod lay;
 
 ghost use Rattle.std.specs.Prelude.{◌≡◌, length};
 ghost use Rattle.operation.specs.Limits.{limits};
-ghost use Rattle.hubtext.specs.Saving.{write_of, written_into};
+ghost use Rattle.hubtext.specs.Saving.{write_told, write_of, written_into};
 
-use basics::Answer;
+use basics::Refusal;
 use hub::Hub;
 
-// The answer, and how long the text is.
-#[derive(Clone, Copy)]
-pub struct Written {
-    pub answer: Answer,
-    pub len: usize,
-}
-
-// Writes the text of a hub at the start of `buf`, where it has room for all of it.
-pub fn write(h: Hub, buf: &mut [u8]) -> Written
-    ensures value { result ≡ write_of limits h (length buf.old) }
-    ensures buf_after { buf.new ≡ written_into limits h buf.old }
+// Writes the text of a hub at the start of `buf`, where it has room for all of it; answers how long the text is.
+#[tactic(auto, unfolding(crate::specs::Saving::write_of, crate::specs::Saving::written_into))]
+pub fn write(h: &Hub, buf: &mut [u8]) -> Result<usize, Refusal>
+    ensures value { write_told result ≡ write_of limits h.now (length buf.old) }
+    ensures buf_after { buf.new ≡ written_into limits h.now buf.old }
 {
-    if !h.shaped() {
-        return Written {
-            answer: Answer::OutOfShape,
-            len: 0,
-        };
-    }
-    let mut none = [0u8; 1];
-    let len = lay::text(h, &mut none);
+    let h = h.in_shape()?;
+    // The length of a text is where it ends, also where there is no room for it.
+    let len = lay::text(&h, &mut [0u8; 1]);
     if buf.len() < len {
-        return Written {
-            answer: Answer::BufferTooShort,
-            len: 0,
-        };
+        return Err(Refusal::BufferTooShort);
     }
-    lay::text(h, buf);
-    Written {
-        answer: Answer::Done,
-        len,
-    }
+    Ok(lay::text(&h, buf))
 }

@@ -5,73 +5,41 @@ use native.Mathlib.Numerals.{add-one}
 use native.Mathlib.Omega.{arith}
 use mathlib.Core.List.{List, [], ◌∷◌, ◌++◌, append_assoc, append-nil}
 use mathlib.Core.Path.{◌≡◌, refl, sym, ap, subst, ◌∙◌}
-use lib.ListN.{length, get_or, set, take, drop, length-append, length-set}
-use lib.Seq.{take-suc, take_all, set_at, drop-cons}
+use lib.ListN.{length, get_or, take}
+use lib.Seq.{take-suc}
 use borrow.Author.Tests.{lt-ltb}
 use Rattle.io.specs.Digits.{last_digits, IsDigitCount}
-use Rattle.basics.specs.Over.{over}
 use Rattle.lines.specs.Decimals.{decimal}
 use Rattle.lines.specs.Fields.{field_of}
 use Rattle.lines.specs.Hex.{hex_digit, hex_of}
 use Rattle.lines.specs.Placing.{Laid, Puts}
+use Rattle.lines.specs.Pens.{Lays}
+use Rattle.lines.specs.declared.put.Pen.{Pen}
 use Rattle.lines.proofs.Decimals.{decimal_digit, decimal_more, decimal_short}
 
 -- nothing, and one piece after another
-pub puts_none : (before : List ℕ) (at : ℕ) → Puts before before at at []
-puts_none before at b t h = subst (λ (x : List ℕ). Laid b before at x) (sym (append-nil t)) h
-
-pub puts_more :
-    (b0 b1 b2 : List ℕ) (a0 a1 a2 : ℕ) (x y : List ℕ) → Puts b0 b1 a0 a1 x → Puts b1 b2 a1 a2 y →
-    Puts b0 b2 a0 a2 (x ++ y)
-puts_more b0 b1 b2 a0 a1 a2 x y p q b t h =
-    subst (λ (z : List ℕ). Laid b b2 a2 z) (append_assoc t x y) (q b (t ++ x) (p b t h))
-
--- a byte that fits, and one that does not
-pub byte_in : (before : List ℕ) (at v : ℕ) → at < length before → Puts before (set before at v) at (at + 1) (v ∷ [])
-byte_in before at v lt b t h = record {
-  count = rw (length-append t (v ∷ [])) (omega (arith, h.count));
-  size = length-set before at v ∙ h.size;
-  text = λ _. ap (λ x. set x at v) (h.text (omega (arith, h.size))) ∙ laid;
-}
-  where
-    here : length t ≡ at
-    here = sym h.count
-
-    laid : set (over at t b) at v ≡ over (at + 1) (t ++ (v ∷ [])) b
-    laid =
-        let front : take at t ≡ t = take_all at t (omega (arith, here)) in
-        let whole : take (at + 1) (t ++ (v ∷ [])) ≡ t ++ (v ∷ []) =
-        take_all (at + 1) (t ++ (v ∷ [])) (rw (length-append t (v ∷ [])) (omega (arith, here))) in
-        rw (
-          front,
-          whole,
-          append_assoc t (v ∷ []) (drop (at + 1) b),
-          add-one,
-          drop-cons b at 0 (omega (
-            arith,
-            h.size,
-          )),
-        )
-        (set_at t (get_or b at 0) (drop (suc at) b) v at here)
-
-pub byte_out : (before : List ℕ) (at v : ℕ) → length before ≤ at → Puts before before at (at + 1) (v ∷ [])
-byte_out before at v le b t h = record {
-  count = rw (length-append t (v ∷ [])) (omega (arith, h.count));
-  size = h.size;
-  text = λ k. absurd (omega (arith, h.size, k, le));
+pub lays_none : (p : Pen) → Lays p p []
+lays_none p = record {
+  same_buffer = refl;
+  puts = λ b t h. subst (λ (x : List ℕ). Laid b p.buf.now p.at x) (sym (append-nil t)) h;
 }
 
--- a loop that has laid the first i of a list, and lays one more
-pub puts_next :
-    (b0 b1 b2 : List ℕ) (a0 a1 a2 i : ℕ) (x : List ℕ) → i < length x → Puts b0 b1 a0 a1 (take i x) →
-    Puts b1 b2 a1 a2 (get_or x i 0 ∷ []) → Puts b0 b2 a0 a2 (take (i + 1) x)
-puts_next b0 b1 b2 a0 a1 a2 i x h p q =
-    subst (λ (z : List ℕ). Puts b0 b2 a0 a2 z) (sym (rw add-one (take-suc x i 0 h)))
-    (puts_more b0 b1 b2 a0 a1 a2 (take i x) (get_or x i 0 ∷ []) p q)
+pub lays_more : {p q r : Pen} {x y : List ℕ} → Lays p q x → Lays q r y → Lays p r (x ++ y)
+lays_more {p} {q} {r} {x} {y} first then = record {
+  same_buffer = then.same_buffer ∙ first.same_buffer;
+  puts = λ b t h.
+      subst (λ (z : List ℕ). Laid b r.buf.now r.at z) (append_assoc t x y) (then.puts b (t ++ x) (first.puts b t h));
+}
 
-pub puts_all :
-    (b0 b1 : List ℕ) (a0 a1 i : ℕ) (x : List ℕ) → length x ≤ i → Puts b0 b1 a0 a1 (take i x) → Puts b0 b1 a0 a1 x
-puts_all b0 b1 a0 a1 i x h p = subst (λ (z : List ℕ). Puts b0 b1 a0 a1 z) (take_all i x h) p
+-- the same piece
+pub lays_same : {p q : Pen} {x y : List ℕ} → Lays p q x → x ≡ y → Lays p q y
+lays_same {p} {q} laid e = subst (λ (z : List ℕ). Lays p q z) e laid
+
+-- what the buffer holds when its pen is gone
+pub lays_end :
+    {p q : Pen} {x : List ℕ} {after : List ℕ} → Lays p q x → (p.buf.ghost_name ≡ q.buf.ghost_name → after ≡ q.buf.now) →
+    Puts p.buf.now after p.at q.at x
+lays_end laid last = rw (last (sym laid.same_buffer)) laid.puts
 
 -- what `io::decimal` says of its digits is what `decimal` is
 decimal_io : (k n : ℕ) → IsDigitCount 10 1 n k → last_digits 10 k n ≡ decimal n
@@ -92,22 +60,25 @@ decimal_io (suc (suc j)) n f =
 
 -- no number of 64 bits has more than 20 digits
 pub few_digits :
-    (k n : ℕ) (out : List ℕ) → n < 10 ^ 20 → IsDigitCount 10 1 n k → take k out ≡ last_digits 10 k n → length (take k out) ≤ 20
+    (k n : ℕ) (out : List ℕ) → n < 10 ^ 20 → IsDigitCount 10 1 n k → take k out ≡ last_digits 10 k n →
+    length (take k out) ≤ 20
 few_digits k n out h f e = rw (e, decimal_io k n f) (decimal_short 19 n h)
 
 pub puts_decimal :
     (b0 b1 : List ℕ) (a0 a1 k n : ℕ) (out : List ℕ) → IsDigitCount 10 1 n k → take k out ≡ last_digits 10 k n →
     Puts b0 b1 a0 a1 (take k out) → Puts b0 b1 a0 a1 (decimal n)
-puts_decimal b0 b1 a0 a1 k n out f e p =
-    subst (λ (z : List ℕ). Puts b0 b1 a0 a1 z) (e ∙ decimal_io k n f) p
+puts_decimal b0 b1 a0 a1 k n out f e p = subst (λ (z : List ℕ). Puts b0 b1 a0 a1 z) (e ∙ decimal_io k n f) p
 
-pub puts_field :
-    (b0 b1 b2 b3 : List ℕ) (a0 a1 a2 a3 : ℕ) (key : List ℕ) (n end : ℕ) → Puts b0 b1 a0 a1 key →
-    Puts b1 b2 a1 a2 (decimal n) → Puts b2 b3 a2 a3 (end ∷ []) → Puts b0 b3 a0 a3 (field_of key end n)
+pub lays_decimal :
+    {p q : Pen} (k n : ℕ) (out : List ℕ) → IsDigitCount 10 1 n k → take k out ≡ last_digits 10 k n →
+    Lays p q (take k out) → Lays p q (decimal n)
+lays_decimal k n out f e laid = lays_same laid (e ∙ decimal_io k n f)
+
+pub lays_field :
+    {p q r s : Pen} (key : List ℕ) (n end : ℕ) → Lays p q key → Lays q r (decimal n) → Lays r s (end ∷ []) →
+    Lays p s (field_of key end n)
 unfolding field_of
-puts_field b0 b1 b2 b3 a0 a1 a2 a3 key n end p q r =
-    puts_more b0 b1 b3 a0 a1 a3 key (decimal n ++ (end ∷ [])) p
-    (puts_more b1 b2 b3 a1 a2 a3 (decimal n) (end ∷ []) q r)
+lays_field key n end a b c = lays_more a (lays_more b c)
 
 -- bytes in hexadecimal
 hex_append : (xs ys : List ℕ) → hex_of (xs ++ ys) ≡ hex_of xs ++ hex_of ys
@@ -115,30 +86,23 @@ unfolding hex_of
 hex_append [] ys = refl
 hex_append (x ∷ xs) ys = ap (λ z. hex_digit (x / 16) ∷ hex_digit (x % 16) ∷ z) (hex_append xs ys)
 
-pub puts_pair :
-    (b0 b1 b2 : List ℕ) (a0 a1 a2 b : ℕ) → Puts b0 b1 a0 a1 (hex_digit (b / 16) ∷ []) →
-    Puts b1 b2 a1 a2 (hex_digit (b % 16) ∷ []) → Puts b0 b2 a0 a2 (hex_of (b ∷ []))
+pub lays_pair :
+    {p q r : Pen} (b : ℕ) → Lays p q (hex_digit (b / 16) ∷ []) → Lays q r (hex_digit (b % 16) ∷ []) →
+    Lays p r (hex_of (b ∷ []))
 unfolding hex_of
-puts_pair b0 b1 b2 a0 a1 a2 b p q =
-    puts_more b0 b1 b2 a0 a1 a2 (hex_digit (b / 16) ∷ []) (hex_digit (b % 16) ∷ []) p q
+lays_pair b high low = lays_more high low
 
-pub hex_none : (before : List ℕ) (at : ℕ) (x : List ℕ) → Puts before before at at (hex_of (take 0 x))
+pub hex_none : (p : Pen) → Lays p p (hex_of [])
 unfolding hex_of
-hex_none before at x = puts_none before at
+hex_none p = lays_none p
 
 pub hex_next :
-    (b0 b1 b2 : List ℕ) (a0 a1 a2 i : ℕ) (x : List ℕ) → i < length x → Puts b0 b1 a0 a1 (hex_of (take i x)) →
-    Puts b1 b2 a1 a2 (hex_of (get_or x i 0 ∷ [])) → Puts b0 b2 a0 a2 (hex_of (take (i + 1) x))
-hex_next b0 b1 b2 a0 a1 a2 i x h p q =
-    subst (λ (z : List ℕ). Puts b0 b2 a0 a2 z)
+    {p q r : Pen} (i : ℕ) (x : List ℕ) → i < length x → Lays p q (hex_of (take i x)) →
+    Lays q r (hex_of (get_or x i 0 ∷ [])) → Lays p r (hex_of (take (i + 1) x))
+hex_next i x h a b =
+    lays_same (lays_more a b)
     (sym (hex_append (take i x) (get_or x i 0 ∷ [])) ∙ ap hex_of (sym (rw add-one (take-suc x i 0 h))))
-    (puts_more b0 b1 b2 a0 a1 a2 (hex_of (take i x)) (hex_of (get_or x i 0 ∷ [])) p q)
-
-pub hex_all :
-    (b0 b1 : List ℕ) (a0 a1 i : ℕ) (x : List ℕ) → length x ≤ i → Puts b0 b1 a0 a1 (hex_of (take i x)) →
-    Puts b0 b1 a0 a1 (hex_of x)
-hex_all b0 b1 a0 a1 i x h p = subst (λ (z : List ℕ). Puts b0 b1 a0 a1 (hex_of z)) (take_all i x h) p
 
 -- all of a text, from the start of a buffer: how long it is, and what the buffer holds where it has room
-pub laid_all : (before after : List ℕ) (r : ℕ) (x : List ℕ) → Puts before after 0 r x → Laid before after r x
-laid_all before after r x p = p before [] (record { count = refl; size = refl; text = λ _. refl })
+pub laid_all : {before after : List ℕ} {r : ℕ} {x : List ℕ} → Puts before after 0 r x → Laid before after r x
+laid_all {before} p = p before [] (record { count = refl; size = refl; text = λ _. refl })

@@ -1,86 +1,88 @@
 -- A loop over the bytes of a field: what holds at its head, and what a turn does. Assumes nothing.
-use Prim.Native.Nat.{ℕ, suc, ◌+◌, ◌≤◌, ◌<◌, zero-le}
+use Prim.Native.Nat.{ℕ, suc, ◌+◌, ◌-◌, ◌≤◌, ◌<◌, zero-le}
 use native.Mathlib.Numerals.{add-one}
 use native.Mathlib.Omega.{arith}
 use mathlib.Core.Bool.{Bool, true, false}
 use mathlib.Core.List.{List, [], ◌∷◌}
 use mathlib.Core.Path.{◌≡◌, refl, ◌∙◌, ap}
 use lib.Dec.{leb}
-use lib.ListN.{length, drop, get_or, drop_of_length-le}
-use lib.Seq.{drop-cons, drop-length}
+use lib.ListN.{length, take, drop, get_or, drop_of_length-le}
+use lib.Seq.{drop-cons}
+use Rattle.std.proofs.Common.{add_assoc}
+use Rattle.std.proofs.lemmas.List.{drop-drop, length-drop, take_all}
 use borrow.Author.Tests.{le-leb}
-use Rattle.std.specs.Prelude.{if◌then◌else◌}
-use Rattle.lines.specs.Fields.{got, wrong, digits, number, field}
-use Rattle.lines.specs.Steps.{InRange, field_as, resume, go_on, Kept, StepKept}
+use Rattle.std.specs.Prelude.{Option, None, Some, if◌then◌else◌}
+use Rattle.lines.specs.Fields.{wrong, digits, number, field}
+use Rattle.lines.specs.Steps.{InRange, field_from, field_as, resume, go_on, Kept, StepKept, FieldSays}
 use Rattle.lines.specs.declared.Field.{Field}
+use Rattle.lines.specs.declared.Reading.{Reading}
 use Rattle.lines.specs.declared.Step.{Step}
-use Rattle.lines.specs.declared.Step.TheVariants.{More, Ended, Wrong}
+use Rattle.lines.specs.declared.Step.TheVariants.{More, Ended}
 
--- in a field that starts at `start`: reading it on from here comes to what reading all of it does
-pub record Inner (s : List ℕ) (start : ℕ) (key : List ℕ) (f : Field) (at seen v : ℕ) : Type 0 where
-  pub from : start ≤ at
-  pub within : at ≤ length s
-  pub kept : Kept key f seen v
-  pub same : field_as key f (drop start s) ≡ resume key f seen v (drop at s)
+-- what is left of a text
+pub to_end : (s : List ℕ) (at : ℕ) → take (length s - at) (drop at s) ≡ drop at s
+to_end s at = take_all (length s - at) (drop at s) (omega (arith, length-drop at s))
 
-resume_all : (key : List ℕ) (f : Field) (t : List ℕ) → field_as key f t ≡ resume key f 0 0 t
+-- in a field at the start of a text: reading it on from here comes to what reading all of it does
+pub record Inner (s : List ℕ) (f : Field) (at : ℕ) (r : Reading) : Type 0 where
+  pub kept : Kept f r
+  pub same : field_as f s ≡ resume f r (drop at s)
+
+pub inner_start : (s : List ℕ) (f : Field) → InRange f → Inner s f 0 (record { seen = 0; value = 0 })
 unfolding resume
-resume_all key f t = rw (le-leb 0 (length key) zero-le)
-
-pub inner_start :
-    (s : List ℕ) (at : ℕ) (key : List ℕ) (f : Field) → InRange f → at ≤ length s → Inner s at key f at 0 0
-inner_start s at key f r h = record {
-  from = omega arith;
-  within = h;
-  kept = record { range = r; far = omega arith; most = zero-le };
-  same = resume_all key f (drop at s);
+inner_start s f i = record {
+  kept = record { range = i; far = omega arith; most = zero-le };
+  same = rw (le-leb 0 (length f.key.now) zero-le);
 }
 
-field_nil : (key : List ℕ) (low top end : ℕ) → field key low top end [] ≡ wrong
+field_nil : (key : List ℕ) (f : Field) → field_from key f [] ≡ wrong
 unfolding field number
-field_nil [] low top end = refl
-field_nil (k ∷ key) low top end = refl
+field_nil [] f = refl
+field_nil (k ∷ key) f = refl
 
-pub past_end : (s : List ℕ) (at : ℕ) (key : List ℕ) (f : Field) → length s < at → field_as key f (drop at s) ≡ wrong
-past_end s at key f h =
-    ap (field_as key f) (drop_of_length-le s {i = at} (omega arith)) ∙ field_nil key f.low f.top f.end
+pub past_end : (s : List ℕ) (at : ℕ) (f : Field) → length s < at → field_as f (drop at s) ≡ wrong
+past_end s at f h = ap (field_as f) (drop_of_length-le s {i = at} (omega arith)) ∙ field_nil f.key.now f
 
-resume_nil : (key : List ℕ) (f : Field) (seen v : ℕ) → resume key f seen v [] ≡ wrong
+resume_nil : (f : Field) (r : Reading) → resume f r [] ≡ wrong
 unfolding resume digits
-resume_nil key f seen v = go (leb seen (length key))
+resume_nil f r = go (leb r.seen (length f.key.now))
   where
-    go : (x : Bool) → (if x then field_as (drop seen key) f [] else wrong) ≡ wrong
+    go : (x : Bool) → (if x then field_from (drop r.seen f.key.now) f [] else wrong) ≡ wrong
     go false = refl
-    go true = field_nil (drop seen key) f.low f.top f.end
+    go true = field_nil (drop r.seen f.key.now) f
 
-module _ (s : List ℕ) (start : ℕ) (key : List ℕ) (f : Field) (at seen v : ℕ) (i : Inner s start key f at seen v) where
-  pub stops_short : length s ≤ at → field_as key f (drop start s) ≡ wrong
-  stops_short h =
-      let e : at ≡ length s = omega (arith, i.within) in
-      i.same ∙ (ap (resume key f seen v) (ap (λ (n : ℕ). drop n s) e ∙ drop-length s) ∙ resume_nil key f seen v)
+module _ (s : List ℕ) (f : Field) (at : ℕ) (r : Reading) (i : Inner s f at r) where
+  pub stops_short : length s ≤ at → field_as f s ≡ wrong
+  stops_short h = i.same ∙ (ap (resume f r) (drop_of_length-le s h) ∙ resume_nil f r)
 
-  module _ (h : at < length s) (r : Step)
-      (g : (t : List ℕ) → resume key f seen v (get_or s at 0 ∷ t) ≡ go_on key f r t) where
-    stepped : field_as key f (drop start s) ≡ go_on key f r (drop (at + 1) s)
-    stepped = i.same ∙ (ap (resume key f seen v) (drop-cons s at 0 h) ∙ (g (drop (suc at) s) ∙ rw add-one))
+  module _ (h : at < length s) where
+    stepped :
+        (o : Option Step) → ((t : List ℕ) → resume f r (get_or s at 0 ∷ t) ≡ go_on f o t) →
+        field_as f s ≡ go_on f o (drop (at + 1) s)
+    stepped o g = i.same ∙ (ap (resume f r) (drop-cons s at 0 h) ∙ (g (drop (suc at) s) ∙ rw add-one))
 
-    pub goes_on : (n w : ℕ) → r ≡ More n w → StepKept key f r → Inner s start key f (at + 1) n w
-    unfolding go_on StepKept
-    goes_on n w e p = record {
-      from = omega (arith, i.from);
-      within = omega arith;
-      kept = rw e at p;
-      same = stepped ∙ rw e;
-    }
-
-    pub goes_wrong : r ≡ Wrong → field_as key f (drop start s) ≡ wrong
+    pub goes_wrong : ((t : List ℕ) → resume f r (get_or s at 0 ∷ t) ≡ go_on f None t) → field_as f s ≡ wrong
     unfolding go_on
-    goes_wrong e = stepped ∙ rw e
+    goes_wrong g = stepped None g
 
-    pub goes_out : (w : ℕ) → r ≡ Ended w → field_as key f (drop start s) ≡ got w (drop (at + 1) s)
-    unfolding go_on
-    goes_out w e = stepped ∙ rw e
+    module _ (o : Step) where
+      pub goes_on :
+          (q : Reading) → o ≡ More q →
+          ((t : List ℕ) → resume f r (get_or s at 0 ∷ t) ≡ go_on f (Some o) t) → StepKept f (Some o) →
+          Inner s f (at + 1) q
+      unfolding go_on StepKept
+      goes_on q e g p = record { kept = rw e at p; same = stepped (Some o) g ∙ rw e }
 
-    pub out_kept : (w : ℕ) → r ≡ Ended w → StepKept key f r → w ≤ f.top
-    unfolding StepKept
-    out_kept w e p = rw e at p
+      -- from a place in a longer text
+      pub goes_out :
+          (all : List ℕ) (start w : ℕ) → s ≡ drop start all → o ≡ Ended w →
+          ((t : List ℕ) → resume f r (get_or s at 0 ∷ t) ≡ go_on f (Some o) t) → StepKept f (Some o) →
+          FieldSays all f start (Some (w, record { at = start + at + 1 }))
+      unfolding go_on StepKept FieldSays
+      goes_out all start w d e g p = (
+        rw (← d) (stepped (Some o) g ∙ rw (e, d, drop-drop (at + 1) start all, ← add_assoc start at 1)),
+        (
+          omega arith,
+          (omega (arith, length-drop start all, ap (length {A = ℕ}) d), rw e at p),
+        ),
+      )

@@ -6,3 +6,4 @@ pub mod Same
 pub mod Texts
 pub mod Steps
 pub mod Placing
+pub mod Pens

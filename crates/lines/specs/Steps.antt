@@ -1,11 +1,11 @@
 -- A field byte by byte. Assumes nothing: these are definitions.
-use Rattle.std.specs.Prelude.{ℕ, ◌+◌, ◌≤◌, ◌<◌, List, ◌≡◌, leb, length, drop, if◌then◌else◌}
+use Rattle.std.specs.Prelude.{ℕ, ◌+◌, ◌≤◌, ◌<◌, List, ◌≡◌, Option, None, Some, leb, length, drop, if◌then◌else◌}
 use Rattle.lines.specs.Fields.{Read, got, wrong, digits, field}
+use Rattle.lines.specs.declared.Cursor.{Cursor}
 use Rattle.lines.specs.declared.Field.{Field}
+use Rattle.lines.specs.declared.Reading.{Reading}
 use Rattle.lines.specs.declared.Step.{Step}
-use Rattle.lines.specs.declared.Step.TheVariants.{More, Ended, Wrong}
-use Rattle.lines.specs.declared.Passed.{Passed}
-use Rattle.lines.specs.declared.Passed.TheVariants.{Got, Wrong as NotPassed}
+use Rattle.lines.specs.declared.Step.TheVariants.{More, Ended}
 
 -- the greatest number that any field may have
 abbrev pub most_top : ℕ
@@ -17,42 +17,46 @@ pub record InRange (f : Field) : Type 0 where
   pub top_most : f.top ≤ most_top
   pub end_most : f.end < 48
 
+-- a field with this rest of its key
+abbrev pub field_from : List ℕ → Field → List ℕ → Read ℕ
+field_from key f t = field key f.low f.top f.end t
+
 -- a whole field
-abbrev pub field_as : List ℕ → Field → List ℕ → Read ℕ
-field_as key f t = field key f.low f.top f.end t
+abbrev pub field_as : Field → List ℕ → Read ℕ
+field_as f t = field_from f.key.now f t
 
--- the rest of a field, after `seen` bytes of its key; past the key, `seen` is one more from the first digit on, and v the
--- number so far
-unfoldable pub resume : List ℕ → Field → ℕ → ℕ → List ℕ → Read ℕ
-resume key f seen v t =
-    if leb seen (length key) then field_as (drop seen key) f t else digits f.top f.end v t
+-- the rest of a field, after `seen` bytes of its key; past the key, `seen` is one more from the first digit on, and `value`
+-- the number so far
+unfoldable pub resume : Field → Reading → List ℕ → Read ℕ
+resume f r t =
+    if leb r.seen (length f.key.now) then field_from (drop r.seen f.key.now) f t else digits f.top f.end r.value t
 
--- what a field comes to after a step
-unfoldable pub go_on : List ℕ → Field → Step → List ℕ → Read ℕ
-go_on key f (More seen v) t = resume key f seen v t
-go_on key f (Ended v) t = got v t
-go_on key f Wrong t = wrong
+-- what a field comes to after a step, or after a wrong byte
+unfoldable pub go_on : Field → Option Step → List ℕ → Read ℕ
+go_on f (Some (More r)) t = resume f r t
+go_on f (Some (Ended v)) t = got v t
+go_on f None t = wrong
 
 -- how far a field can be
-pub record Kept (key : List ℕ) (f : Field) (seen v : ℕ) : Type 0 where
+pub record Kept (f : Field) (r : Reading) : Type 0 where
   pub range : InRange f
-  pub far : seen ≤ length key + 1
-  pub most : v ≤ f.top
+  pub far : r.seen ≤ length f.key.now + 1
+  pub most : r.value ≤ f.top
 
 -- the same where a digit comes past the key
-pub record Digits (key : List ℕ) (f : Field) (seen v b : ℕ) : Type 0 where
-  pub kept : Kept key f seen v
-  pub past : length key ≤ seen
+pub record Digits (f : Field) (r : Reading) (b : ℕ) : Type 0 where
+  pub kept : Kept f r
+  pub past : length f.key.now ≤ r.seen
   pub least : 48 ≤ b
   pub greatest : b ≤ 57
 
-unfoldable pub StepKept : List ℕ → Field → Step → Type 0
-StepKept key f (More seen v) = Kept key f seen v
-StepKept key f (Ended v) = v ≤ f.top
-StepKept key f Wrong = Unit {0}
+unfoldable pub StepKept : Field → Option Step → Type 0
+StepKept f (Some (More r)) = Kept f r
+StepKept f (Some (Ended v)) = v ≤ f.top
+StepKept f None = Unit {0}
 
 -- what passing a field at a place answers: its number, and the place where the text after it begins; or that it is wrong
-unfoldable pub FieldSays : List ℕ → List ℕ → Field → ℕ → Passed → Type 0
-FieldSays s key f at (Got v c) =
-    (field_as key f (drop at s) ≡ got v (drop c.at s)) × ((at < c.at) × ((c.at ≤ length s) × (v ≤ f.top)))
-FieldSays s key f at NotPassed = field_as key f (drop at s) ≡ wrong
+unfoldable pub FieldSays : List ℕ → Field → ℕ → Option (ℕ × Cursor) → Type 0
+FieldSays s f at (Some (v, c)) =
+    (field_as f (drop at s) ≡ got v (drop c.at s)) × ((at < c.at) × ((c.at ≤ length s) × (v ≤ f.top)))
+FieldSays s f at None = field_as f (drop at s) ≡ wrong

@@ -10,74 +10,84 @@ pub const LF: u8 = 10;
 
 pub const COMMA: u8 = 44;
 
-// What a field may be: the range of its number, of which the least is 0 or 1, and the byte that ends it.
+// What a field may be: its key, the range of its number, of which the least is 0 or 1, and the byte that ends it.
 #[derive(Clone, Copy)]
-pub struct Field {
+pub struct Field<'a> {
+    pub key: &'a [u8],
     pub low: u8,
     pub top: u64,
     pub end: u8,
 }
 
-// What one byte does to a field: it goes on, with so many bytes of the key seen and this number, or it is ended, or wrong.
+// How far a field is read: `seen` bytes of its key (and one more from the first digit on), and its number so far.
+#[derive(Clone, Copy)]
+pub struct Reading {
+    pub seen: usize,
+    pub value: u64,
+}
+
+// What a byte that is not wrong does to a field: it goes on, or it is ended with this number.
 #[derive(Clone, Copy)]
 pub enum Step {
-    More(usize, u64),
+    More(Reading),
     Ended(u64),
-    Wrong,
 }
 
-// One byte of a field, of which `seen` bytes of the key (and one more from the first digit on) and the number `value` are
-// read. The number never passes the top, so that one of any length is read without overflow.
-pub fn take_byte(key: &[u8], f: Field, seen: usize, value: u64, b: u8) -> Step
-    requires { Kept key.now f seen value }
-    ensures goes { (t : List ℕ) → resume key.now f seen value (b ∷ t) ≡ go_on key.now f result t }
-    ensures kept { StepKept key.now f result }
-{
-    if seen < key.len() {
-        if b == key[seen] {
-            return Step::More(seen + 1, value);
+impl Field<'_> {
+    // One byte of a field. The number never passes the top, so that one of any length is read without overflow.
+    pub fn take_byte(self, so_far: Reading, b: u8) -> Option<Step>
+        requires { Kept self so_far }
+        ensures goes { (t : List ℕ) → resume self.entry so_far (b ∷ t) ≡ go_on self.entry result t }
+        ensures kept { StepKept self.entry result }
+    {
+        let Reading { seen, value } = so_far;
+        if seen < self.key.len() {
+            if b == self.key[seen] {
+                return Some(Step::More(Reading {
+                    seen: seen + 1,
+                    value,
+                }));
+            }
+            return None;
         }
-        return Step::Wrong;
-    }
-    if b == f.end {
-        if key.len() < seen {
-            return Step::Ended(value);
+        if b == self.end {
+            if self.key.len() < seen {
+                return Some(Step::Ended(value));
+            }
+            return None;
         }
-        return Step::Wrong;
+        match b {
+            b'0'..=b'9' => self.digit(so_far, b),
+            _ => None,
+        }
     }
-    if b < b'0' {
-        return Step::Wrong;
-    }
-    if b'9' < b {
-        return Step::Wrong;
-    }
-    digit(key, f, seen, value, b)
-}
 
-// The same of a digit.
-fn digit(key: &[u8], f: Field, seen: usize, value: u64, b: u8) -> Step
-    requires { Digits key.now f seen value b }
-    ensures goes { (t : List ℕ) → resume key.now f seen value (b ∷ t) ≡ go_on key.now f result t }
-    ensures kept { StepKept key.now f result }
-{
-    let d = b - b'0';
-    if seen == key.len() {
-        if d < f.low {
-            return Step::Wrong;
+    // The same of a digit.
+    fn digit(self, so_far: Reading, b: u8) -> Option<Step>
+        requires { Digits self so_far b }
+        ensures goes { (t : List ℕ) → resume self.entry so_far (b ∷ t) ≡ go_on self.entry result t }
+        ensures kept { StepKept self.entry result }
+    {
+        let Reading { seen, value } = so_far;
+        let d = u64::from(b - b'0');
+        if seen == self.key.len() {
+            if d < u64::from(self.low) || self.top < d {
+                return None;
+            }
+            return Some(Step::More(Reading {
+                seen: seen + 1,
+                value: d,
+            }));
         }
-        if f.top < d as u64 {
-            return Step::Wrong;
+        if value == 0 {
+            return None;
         }
-        return Step::More(seen + 1, d as u64);
+        let next = value * 10 + d;
+        if self.top < next {
+            return None;
+        }
+        Some(Step::More(Reading { seen, value: next }))
     }
-    if value == 0 {
-        return Step::Wrong;
-    }
-    let next = value * 10 + d as u64;
-    if f.top < next {
-        return Step::Wrong;
-    }
-    Step::More(seen, next)
 }
 
 // A place in a text.
@@ -86,40 +96,27 @@ pub struct Cursor {
     pub at: usize,
 }
 
-// A field's number and the place after it, or that it is wrong.
-#[derive(Clone, Copy)]
-pub enum Passed {
-    Got(u64, Cursor),
-    Wrong,
-}
-
 impl Cursor {
-    // Passes one field.
-    pub fn field(self, s: &[u8], key: &[u8], f: Field) -> Passed
+    // Passes one field: its number and the place after it, or none where it is wrong.
+    pub fn field(self, s: &[u8], f: Field) -> Option<(u64, Cursor)>
         requires { InRange f }
-        ensures { FieldSays s.now key.now f self.at result }
+        ensures { FieldSays s.now f.entry self.at result }
     {
-        let start = self.at;
-        if s.len() < start {
-            return Passed::Wrong;
-        }
-        let mut at = start;
-        let mut seen: usize = 0;
-        let mut value: u64 = 0;
-        loop {
-            if s.len() <= at {
-                return Passed::Wrong;
-            }
-            let step = take_byte(key, f, seen, value, s[at]);
-            at += 1;
-            match step {
-                Step::More(n, v) => {
-                    seen = n;
-                    value = v;
+        let rest = s.get(self.at..)?;
+        let mut so_far = Reading { seen: 0, value: 0 };
+        for (i, b) in rest.iter().enumerate() {
+            match f.take_byte(so_far, *b)? {
+                Step::More(further) => so_far = further,
+                Step::Ended(value) => {
+                    return Some((
+                        value,
+                        Cursor {
+                            at: self.at + i + 1,
+                        },
+                    ));
                 }
-                Step::Ended(v) => return Passed::Got(v, Cursor { at }),
-                Step::Wrong => return Passed::Wrong,
             }
         }
+        None
     }
 }

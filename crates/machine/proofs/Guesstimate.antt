@@ -1,14 +1,15 @@
 -- Note is R1, issue is R2, and taking a record is this machine's part of R3. Assumes nothing.
 use Prim.Native.Nat.{ℕ, zero, suc, ◌+◌, ◌-◌, ◌≤◌, ◌<◌}
-use native.Mathlib.Nat.{zero-add, suc-add}
 use native.Mathlib.Numerals.{add-one}
 use native.Mathlib.Omega.{arith}
 use mathlib.Core.Bool.{true}
 use mathlib.Core.List.{List, [], ◌∷◌, ◌++◌, map, map-append}
 use mathlib.Core.Option.{Option, some}
-use mathlib.Core.Path.{◌≡◌, refl, ap, ◌∙◌}
+use mathlib.Core.Path.{◌≡◌, refl, sym, ap, ◌∙◌}
+use Rattle.std.proofs.lemmas.List.{drop-take}
+use Rattle.std.specs.List.{drop-map}
 use lib.ListN.{length, get_or, set, take, drop, replicate, length-drop}
-use lib.Seq.{take-suc-set, take-append-le, take-nil}
+use lib.Seq.{take-suc-set, take-append-le}
 use lib.Dec.{ltb, eqb}
 use borrow.Author.Tests.{ltb-true}
 use Rattle.basics.proofs.Choice.{and_both}
@@ -33,16 +34,6 @@ queued_joined :
     queued (n + 1) (set queue n (packed l op)) ≡ queued n queue ++ (op ∷ [])
 queued_joined l n queue op h = rw (add-one, take-suc-set queue n (packed l op) h, map-append, unpacked_packed l op)
 
-take_drop : {A : Type 0} (n k : ℕ) (xs : List A) → take k (drop n xs) ≡ drop n (take (n + k) xs)
-take_drop zero k xs = rw zero-add
-take_drop (suc n) k [] = rw (take-nil k, take-nil (suc n + k))
-take_drop (suc n) k (x ∷ xs) = rw (suc-add n k) (take_drop n k xs)
-
-map_drop : {A B : Type 0} (f : A → B) (n : ℕ) (xs : List A) → map f (drop n xs) ≡ drop n (map f xs)
-map_drop f zero xs = refl
-map_drop f (suc n) [] = refl
-map_drop f (suc n) (x ∷ xs) = map_drop f n xs
-
 queued_left :
     (l : Limits) (n waiting : ℕ) (queue : List Packed) → n ≤ waiting → waiting ≤ length queue →
     queued (waiting - n) (advanced l n queue) ≡ drop n (queued waiting queue)
@@ -51,7 +42,7 @@ queued_left l n waiting queue a b =
     let k : n + (waiting - n) ≡ waiting = omega arith in
     let t : take (waiting - n) (drop n queue ++ replicate n (empty l)) ≡ take (waiting - n) (drop n queue) =
     take-append-le (waiting - n) (drop n queue) (replicate n (empty l)) (simp length-drop (omega arith)) in
-    ap (map unpacked) (t ∙ (rw k at (take_drop n (waiting - n) queue))) ∙ map_drop unpacked n (take waiting queue)
+    ap (map unpacked) (t ∙ sym (rw k at (drop-take n (waiting - n) queue))) ∙ sym (drop-map unpacked n (take waiting queue))
 
 but_first : {A : Type 0} (xs : List A) → drop 1 xs ≡ AllButFirst Cells Local xs
 but_first [] = refl
@@ -120,7 +111,7 @@ module _ (l : Limits) (C : List (Shared Cells Local)) (m : Machine) where
       let o = same_is (unpacked (get_or m.queue 0 nothing)) op same in
       ap (map (sale l m.width)) (q ∙ ap (λ x. x ∷ drop 1 (queued m.waiting m.queue)) o) ∙
       ap (λ xs. sale l m.width op ∷ xs)
-      (map_drop (sale l m.width) 1 (queued m.waiting m.queue) ∙ but_first
+      (sym (drop-map (sale l m.width) 1 (queued m.waiting m.queue)) ∙ but_first
       (map (sale l m.width) (queued m.waiting m.queue)))
 
   pub own_is_R3 :
@@ -131,7 +122,7 @@ module _ (l : Limits) (C : List (Shared Cells Local)) (m : Machine) where
   own_is_R3 op a b =
       rw (
         queued_left l 1 m.waiting m.queue a b,
-        map_drop (sale l m.width) 1 (queued m.waiting m.queue),
+        ← (drop-map (sale l m.width) 1 (queued m.waiting m.queue)),
         but_first (map (sale l m.width) (queued m.waiting m.queue)),
       )
 
@@ -142,5 +133,5 @@ module _ (l : Limits) (C : List (Shared Cells Local)) (m : Machine) where
   unfolding copied
   copy_is D position cells n a b =
       let q = queued_left l n m.waiting m.queue a b in
-      let p = ap (map (sale l m.width)) q ∙ map_drop (sale l m.width) n (queued m.waiting m.queue) in
+      let p = ap (map (sale l m.width)) q ∙ sym (drop-map (sale l m.width) n (queued m.waiting m.queue)) in
       rw (replay_is l m.width (queued (m.waiting - n) (advanced l n m.queue)) cells, p)

@@ -22,13 +22,10 @@ use Rattle.machine.specs.Issuing.{sold, sold_on, issue_known, issue_of}
 use Rattle.machine.specs.Noting.{written, note_known, note_of}
 use Rattle.machine.specs.Recording.{own_taken, other_taken, ran_agreed, as_issued, record_known, record_of}
 use Rattle.machine.specs.Copying.{copied, copy_good, copy_known, copy_of}
-use Rattle.machine.specs.declared.Issued.{Issued}
-use Rattle.machine.specs.declared.Copied.{Copied}
-use Rattle.machine.specs.declared.Noted.{Noted}
-use Rattle.machine.specs.declared.Taken.{Taken}
+use Rattle.machine.specs.Telling.{Issued, Noted, Taken, Copied}
 use Rattle.machine.specs.declared.Machine.{Machine}
 use Rattle.machine.proofs.KeptStates.{sold_good, written_good, own_good, other_good, copied_good, ran_keeps}
-use Rattle.machine.proofs.InShape.{Good, good, is_shaped}
+use Rattle.machine.proofs.GoodShape.{Good, good, is_shaped}
 use Rattle.machine.proofs.Recording.{as_issued_waits}
 use Rattle.machine.proofs.Copying.{copy_facts}
 use Rattle.state.proofs.KeptCounts.{counts_kept, counts_filled}
@@ -57,13 +54,12 @@ issue_known_keeps l m op sized h w =
         is_shaped l (sold l m op guess).machine (sold_good l m g sized op guess a b w k)
     go a b none e = h
 
--- what a known issue answers leaves the state in shape
-pub issue_known_leaves :
+-- what a known issue tells has a machine in shape
+pub issue_leaves :
     (l : Limits) (m : Machine) (op : List ℕ) → length m.queue ≡ most_queued → shaped l m ≡ true →
-    well_formed l m.width op ≡ true → (r : Issued) → r ≡ issue_known l m op →
-    (r ≡ issue_known l m op) × (shaped l r.machine ≡ true)
-issue_known_leaves l m op sized h w r e =
-    (e, subst (λ (x : Issued). shaped l x.machine ≡ true) (sym e) (issue_known_keeps l m op sized h w))
+    well_formed l m.width op ≡ true → (r : Issued) → r ≡ issue_known l m op → shaped l r.machine ≡ true
+issue_leaves l m op sized h w r e =
+    subst (λ (x : Issued). shaped l x.machine ≡ true) (sym e) (issue_known_keeps l m op sized h w)
 
 pub issue_keeps :
     (l : Limits) (m : Machine) (op : List ℕ) → length m.queue ≡ most_queued → shaped l m ≡ true →
@@ -90,11 +86,10 @@ note_known_keeps l m k i h =
     Keeps : Noted → Type 0
     Keeps r = shaped l r.machine ≡ true
 
-pub note_known_leaves :
+pub note_leaves :
     (l : Limits) (m : Machine) (k i : ℕ) → shaped l m ≡ true → (r : Noted) → r ≡ note_known m k i →
-    (r ≡ note_known m k i) × (shaped l r.machine ≡ true)
-note_known_leaves l m k i h r e =
-    (e, subst (λ (x : Noted). shaped l x.machine ≡ true) (sym e) (note_known_keeps l m k i h))
+    shaped l r.machine ≡ true
+note_leaves l m k i h r e = subst (λ (x : Noted). shaped l x.machine ≡ true) (sym e) (note_known_keeps l m k i h)
 
 pub note_keeps :
     (l : Limits) (m : Machine) (k i : ℕ) → shaped l m ≡ true → shaped l (note_of l m k i).machine ≡ true
@@ -135,15 +130,13 @@ record_known_keeps l m n who number op sized h d =
     below : ltb n m.position ≡ false → m.position < most_decided
     below a = omega (arith, ltb-false n m.position a)
 
-pub record_known_leaves :
+pub record_leaves :
     (l : Limits) (m : Machine) (n who number : ℕ) (op : List ℕ) → length m.queue ≡ most_queued →
     shaped l m ≡ true → n < most_decided → (r : Taken) → r ≡ record_known l m n who number op →
-    (r ≡ record_known l m n who number op) × (shaped l r.machine ≡ true)
-record_known_leaves l m n who number op sized h d r e = (
-  e,
-  subst (λ (x : Taken). shaped l x.machine ≡ true) (sym e)
-      (record_known_keeps l m n who number op sized h d),
-)
+    shaped l r.machine ≡ true
+record_leaves l m n who number op sized h d r e =
+    subst (λ (x : Taken). shaped l x.machine ≡ true) (sym e)
+    (record_known_keeps l m n who number op sized h d)
 
 pub record_keeps :
     (l : Limits) (m : Machine) (n who number : ℕ) (op : List ℕ) → length m.queue ≡ most_queued →
@@ -184,16 +177,13 @@ copy_known_keeps l m position cells decided sized h r =
     Keeps : Copied → Type 0
     Keeps r = shaped l r.machine ≡ true
 
-pub copy_known_leaves :
+pub copy_leaves :
     (l : Limits) (m : Machine) (position : ℕ) (cells : List ℕ) (decided : ℕ) → length m.queue ≡ most_queued →
     shaped l m ≡ true → copy_good l m position cells decided ≡ true → (r : Copied) →
-    r ≡ copy_known l m position cells decided →
-    (r ≡ copy_known l m position cells decided) × (shaped l r.machine ≡ true)
-copy_known_leaves l m position cells decided sized h g r e = (
-  e,
-  subst (λ (x : Copied). shaped l x.machine ≡ true) (sym e)
-      (copy_known_keeps l m position cells decided sized h g),
-)
+    r ≡ copy_known l m position cells decided → shaped l r.machine ≡ true
+copy_leaves l m position cells decided sized h g r e =
+    subst (λ (x : Copied). shaped l x.machine ≡ true) (sym e)
+    (copy_known_keeps l m position cells decided sized h g)
 
 pub copy_keeps :
     (l : Limits) (m : Machine) (position : ℕ) (cells : List ℕ) (decided : ℕ) → length m.queue ≡ most_queued →

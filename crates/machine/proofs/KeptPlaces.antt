@@ -7,7 +7,8 @@ use mathlib.Core.Path.{◌≡◌, refl, sym, ◌∙◌}
 use lib.Dec.{ltb, eqb}
 use lib.ListN.{length, get_or, set, drop, replicate, length-drop, get_or-replicate, get_or-append}
 use lib.Seq.{get_or-set_same, get_or-set_other, get_or-drop, get_or-append-add}
-use borrow.Author.Tests.{lt-ltb, le-ltb, ltb-true, ltb-false, eqb-true, eqb-false}
+use borrow.Author.Tests.{ltb-true, ltb-false, eqb-true, eqb-false}
+use Rattle.std.proofs.lemmas.Bool.Decides.{nat_tests}
 use Rattle.basics.specs.Every.{every}
 use Rattle.basics.proofs.Every.{every_at, every_all}
 use Rattle.operation.specs.Limits.{Limits}
@@ -19,20 +20,14 @@ use Rattle.machine.specs.Shape.{place_good}
 use Rattle.machine.specs.Queueing.{advanced}
 use Rattle.machine.specs.declared.Machine.{Machine}
 use Rattle.state.proofs.Holding.{packed_held, empty_blank}
-use Rattle.machine.proofs.InShape.{Good, place_below, place_past}
+use Rattle.machine.proofs.GoodShape.{Good, place_below, place_past}
 
 -- a place keeps its shape when the queue's length and its own place fall by as many
 place_moved :
     (l : Limits) (width waiting n i : ℕ) (o : Packed) → n ≤ waiting →
     place_good l width waiting (n + i) o ≡ place_good l width (waiting - n) i o
 unfolding place_good
-place_moved l width waiting n i o h = go (ltb i (waiting - n)) refl
-  where
-    go :
-        (t : Bool) → ltb i (waiting - n) ≡ t →
-        place_good l width waiting (n + i) o ≡ place_good l width (waiting - n) i o
-    go true e = let f = ltb-true i (waiting - n) e in simp (e, lt-ltb (n + i) waiting (omega arith))
-    go false e = let f = ltb-false i (waiting - n) e in simp (e, le-ltb (n + i) waiting (omega arith))
+place_moved l width waiting n i o h = grind (arith, nat_tests)
 
 pub blank_place : (l : Limits) (width waiting i : ℕ) → waiting ≤ i → place_good l width waiting i (empty l) ≡ true
 blank_place l width waiting i h = place_past l width waiting i (empty l) h ∙ empty_blank l
@@ -42,11 +37,7 @@ place_longer :
     (l : Limits) (width waiting i : ℕ) (o : Packed) → (i ≡ waiting → ⊥) →
     place_good l width (waiting + 1) i o ≡ place_good l width waiting i o
 unfolding place_good
-place_longer l width waiting i o h = go (ltb i waiting) refl
-  where
-    go : (t : Bool) → ltb i waiting ≡ t → place_good l width (waiting + 1) i o ≡ place_good l width waiting i o
-    go true e = let f = ltb-true i waiting e in simp (e, lt-ltb i (waiting + 1) (omega arith))
-    go false e = let f = ltb-false i waiting e in simp (e, le-ltb i (waiting + 1) (omega arith))
+place_longer l width waiting i o h = grind (arith, nat_tests)
 
 module _ (l : Limits) (m : Machine) (g : Good l m) (sized : length m.queue ≡ most_queued) where
   abbrev Places : ℕ → List Packed → Type 0

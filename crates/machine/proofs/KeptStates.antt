@@ -25,7 +25,7 @@ use Rattle.machine.specs.Recording.{own_taken, other_taken}
 use Rattle.machine.specs.Copying.{copied}
 use Rattle.machine.specs.Queueing.{advanced}
 use Rattle.machine.specs.declared.Machine.{Machine}
-use Rattle.machine.proofs.InShape.{Good}
+use Rattle.machine.proofs.GoodShape.{Good}
 use Rattle.state.proofs.KeptCounts.{cell_most, counts_kept, counts_set, counts_filled, counts_none}
 use Rattle.machine.proofs.KeptPlaces.{blank_place, places_advanced, places_joined}
 

@@ -5,18 +5,9 @@ use mathlib.Core.Bool.{Bool, true, false}
 use mathlib.Core.List.{List}
 use mathlib.Core.Path.{◌≡◌, refl, sym, ◌∙◌}
 use lib.Dec.{leb}
-use lib.ListN.{
-  length,
-  get_or,
-  drop,
-  replicate,
-  length-replicate,
-  length-drop,
-  replicate-append-replicate,
-  get_or-eq_default,
-  get_or-append,
-}
-use lib.Seq.{take_all, drop_at, get_or-drop}
+use lib.ListN.{length, get_or, drop, replicate, length-drop, get_or-eq_default, get_or-append}
+use lib.Seq.{take_all, get_or-drop}
+use Rattle.std.proofs.lemmas.List.{drop-replicate}
 use borrow.Author.Tests.{leb-true, leb-false}
 use Rattle.basics.specs.Over.{over}
 use Rattle.basics.proofs.Every.{every_at}
@@ -29,21 +20,17 @@ use Rattle.machine.specs.Shape.{place_good}
 use Rattle.machine.specs.Queueing.{advanced}
 use Rattle.machine.specs.declared.Machine.{Machine}
 use Rattle.state.proofs.Holding.{held_sound}
-use Rattle.machine.proofs.InShape.{Good, place_below}
+use Rattle.machine.proofs.GoodShape.{Good, place_below}
 
-drop_replicate : {A : Type 0} (a : A) (k n : ℕ) → drop k (replicate (k + n) a) ≡ replicate n a
-drop_replicate a k n =
-    rw (← (replicate-append-replicate k n a)) (drop_at (replicate k a) (replicate n a) k (length-replicate k a))
-
--- a loop that has moved all that are left
+-- those that are left, over the start of an empty queue
 pub advance_end :
     (l : Limits) (n : ℕ) (queue : List Packed) → n ≤ most_queued → length queue ≡ most_queued →
     over (most_queued - n) (drop n queue) (replicate most_queued (empty l)) ≡ advanced l n queue
 unfolding advanced
 advance_end l n queue h e =
-    let k : most_queued - n + n ≡ most_queued = omega arith in
+    let k : most_queued - (most_queued - n) ≡ n = omega arith in
     let d : drop (most_queued - n) (replicate most_queued (empty l)) ≡ replicate n (empty l) = rw k at
-    (drop_replicate (empty l) (most_queued - n) n) in
+    (drop-replicate (most_queued - n) most_queued (empty l)) in
     rw (take_all (most_queued - n) (drop n queue) (simp length-drop (omega arith)), d)
 
 -- a place of the queue that is full holds a sound operation

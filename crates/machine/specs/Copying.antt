@@ -1,25 +1,26 @@
 -- Take a fresh copy. Refusals in the paper's order: 1, 13, 10, 12. Assumes nothing: these are definitions.
 use Rattle.std.specs.Prelude.{ℕ, ◌+◌, ◌-◌, Bool, not, ◌&&◌, List, ltb, leb, eqb, length, if◌then◌else◌}
 use Rattle.basics.specs.Counts.{counts}
-use Rattle.basics.specs.declared.Answer.{Answer}
-use Rattle.basics.specs.declared.Answer.TheVariants.{Done, OutOfShape, BadCopy, Old, NotAsIssued}
+use Rattle.basics.specs.Refusals.{number_of}
+use Rattle.basics.specs.declared.Refusal.{Refusal}
+use Rattle.basics.specs.declared.Refusal.TheVariants.{OutOfShape, BadCopy, Old, NotAsIssued}
 use Rattle.operation.specs.Limits.{Limits}
 use Rattle.effect.specs.Running.{filled}
 use Rattle.effect.specs.Replaying.{replay, queued}
 use Rattle.state.specs.Numbers.{most_issued, most_decided}
 use Rattle.machine.specs.Shape.{shaped}
 use Rattle.machine.specs.Queueing.{advanced}
-use Rattle.machine.specs.declared.Copied.{Copied}
+use Rattle.machine.specs.Telling.{Copied}
 use Rattle.machine.specs.declared.Machine.{Machine}
 
-abbrev pub not_copied : Answer → Machine → Copied
-not_copied answer m = record { answer = answer; left = 0; machine = m }
+abbrev pub not_copied : Refusal → Machine → Copied
+not_copied refusal m = record { answer = number_of refusal; left = 0; machine = m }
 
 -- agreed cells and position are replaced, the `left` oldest leave the queue, done and unheard grow by as many, and the
 -- guess is replayed
 unfoldable pub copied : Limits → Machine → ℕ → List ℕ → ℕ → Copied
 copied l m position cells left = record {
-  answer = Done;
+  answer = 0;
   left = left;
   machine = record {
     machines = m.machines;

@@ -1,15 +1,9 @@
 -- Issue. Refusals in the paper's order: 1, 2, 3, 4, 5. Assumes nothing: these are definitions.
 use Rattle.std.specs.Prelude.{ℕ, ◌+◌, not, List, leb, set, if◌then◌else◌}
 use Rattle.std.proofs.Math.Option.{Option, some, none}
-use Rattle.basics.specs.declared.Answer.{Answer}
-use Rattle.basics.specs.declared.Answer.TheVariants.{
-  Done,
-  OutOfShape,
-  Malformed,
-  QueueFull,
-  AllIssued,
-  FailsOnGuess,
-}
+use Rattle.basics.specs.Refusals.{number_of}
+use Rattle.basics.specs.declared.Refusal.{Refusal}
+use Rattle.basics.specs.declared.Refusal.TheVariants.{OutOfShape, Malformed, QueueFull, AllIssued, FailsOnGuess}
 use Rattle.operation.specs.Limits.{Limits}
 use Rattle.operation.specs.Packing.{packed}
 use Rattle.operation.specs.Reading.{well_formed}
@@ -17,16 +11,16 @@ use Rattle.effect.specs.Running.{outcome}
 use Rattle.effect.specs.Replaying.{most_queued}
 use Rattle.state.specs.Numbers.{most_issued}
 use Rattle.machine.specs.Shape.{shaped}
-use Rattle.machine.specs.declared.Issued.{Issued}
+use Rattle.machine.specs.Telling.{Issued}
 use Rattle.machine.specs.declared.Machine.{Machine}
 
-abbrev pub not_issued : Answer → Machine → Issued
-not_issued answer m = record { answer = answer; number = 0; machine = m }
+abbrev pub not_issued : Refusal → Machine → Issued
+not_issued refusal m = record { answer = number_of refusal; number = 0; machine = m }
 
 -- the guess changes, the operation joins the end of the queue and takes the next number
 unfoldable pub sold : Limits → Machine → List ℕ → List ℕ → Issued
 sold l m op guess = record {
-  answer = Done;
+  answer = 0;
   number = m.issued;
   machine = record {
     machines = m.machines;

@@ -1,6 +1,7 @@
 -- The selling machine, in the paper's words. Read in this order.
 pub mod Numbers
 pub mod Shape
+pub mod Telling
 pub mod Starting
 pub mod Queueing
 pub mod Issuing

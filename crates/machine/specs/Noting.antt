@@ -1,21 +1,22 @@
 -- Note. Refusals in the paper's order: 1, 6. Assumes nothing: these are definitions.
 use Rattle.std.specs.Prelude.{ℕ, not, ◌&&◌, ltb, set, if◌then◌else◌}
-use Rattle.basics.specs.declared.Answer.{Answer}
-use Rattle.basics.specs.declared.Answer.TheVariants.{Done, OutOfShape, NoSuchNote}
+use Rattle.basics.specs.Refusals.{number_of}
+use Rattle.basics.specs.declared.Refusal.{Refusal}
+use Rattle.basics.specs.declared.Refusal.TheVariants.{OutOfShape, NoSuchNote}
 use Rattle.operation.specs.Limits.{Limits}
 use Rattle.effect.specs.Running.{cell}
 use Rattle.machine.specs.Numbers.{note_count}
 use Rattle.machine.specs.Shape.{shaped}
-use Rattle.machine.specs.declared.Noted.{Noted}
+use Rattle.machine.specs.Telling.{Noted}
 use Rattle.machine.specs.declared.Machine.{Machine}
 
-abbrev pub not_noted : Answer → Machine → Noted
-not_noted answer m = record { answer = answer; count = 0; machine = m }
+abbrev pub not_noted : Refusal → Machine → Noted
+not_noted refusal m = record { answer = number_of refusal; count = 0; machine = m }
 
 -- note k becomes the guess of cell i; nothing else changes
 unfoldable pub written : Machine → ℕ → ℕ → Noted
 written m k i = record {
-  answer = Done;
+  answer = 0;
   count = cell m.guess i;
   machine = record {
     machines = m.machines;

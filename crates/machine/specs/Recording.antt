@@ -1,15 +1,8 @@
 -- Take a record. Refusals in the paper's order: 1, 9, 2, 10, 11, 12. Assumes nothing: these are definitions.
 use Rattle.std.specs.Prelude.{ℕ, ◌+◌, ◌-◌, Bool, not, ◌&&◌, List, ltb, eqb, get_or, if◌then◌else◌}
-use Rattle.basics.specs.declared.Answer.{Answer}
-use Rattle.basics.specs.declared.Answer.TheVariants.{
-  Done,
-  OutOfShape,
-  OutOfRange,
-  Malformed,
-  Old,
-  Early,
-  NotAsIssued,
-}
+use Rattle.basics.specs.Refusals.{number_of}
+use Rattle.basics.specs.declared.Refusal.{Refusal}
+use Rattle.basics.specs.declared.Refusal.TheVariants.{OutOfShape, OutOfRange, Malformed, Old, Early, NotAsIssued}
 use Rattle.operation.specs.Limits.{Limits}
 use Rattle.operation.specs.Packing.{unpacked, nothing, same_bytes}
 use Rattle.operation.specs.Reading.{well_formed}
@@ -18,16 +11,16 @@ use Rattle.effect.specs.Replaying.{replay, queued}
 use Rattle.state.specs.Numbers.{most_issued, most_decided}
 use Rattle.machine.specs.Shape.{shaped}
 use Rattle.machine.specs.Queueing.{advanced}
-use Rattle.machine.specs.declared.Taken.{Taken}
+use Rattle.machine.specs.Telling.{Taken}
 use Rattle.machine.specs.declared.Machine.{Machine}
 
-abbrev pub not_taken : Answer → Machine → Taken
-not_taken answer m = record { answer = answer; outcome = 0; machine = m }
+abbrev pub not_taken : Refusal → Machine → Taken
+not_taken refusal m = record { answer = number_of refusal; outcome = 0; machine = m }
 
 -- an own record: the front of the queue goes, done grows, kept or lost grows by the outcome, the guess stays
 unfoldable pub own_taken : Limits → Machine → Came → Taken
 own_taken l m ran = record {
-  answer = Done;
+  answer = 0;
   outcome = bit ran.ok;
   machine = record {
     machines = m.machines;
@@ -50,7 +43,7 @@ own_taken l m ran = record {
 -- another's: the guess becomes the queue replayed on the new agreed cells
 unfoldable pub other_taken : Limits → Machine → List ℕ → Taken
 other_taken l m cells = record {
-  answer = Done;
+  answer = 0;
   outcome = 2;
   machine = record {
     machines = m.machines;

@@ -1,43 +1,29 @@
 // Tests of what arrives at a machine.
-ghost use Rattle.std.specs.Prelude.{◌≡◌, true};
+ghost use Rattle.std.specs.Prelude.{◌≡◌, ◌&&◌, ltb};
 ghost use Rattle.operation.specs.Limits.{limits};
-ghost use Rattle.machine.specs.Shape.{shaped};
-ghost use Rattle.machine.specs.Recording.{as_issued};
+ghost use Rattle.state.specs.Numbers.{most_issued, most_decided};
 ghost use Rattle.machine.specs.Copying.{copy_good};
 
 use crate::Machine;
-use basics::{are_counts, index};
+use basics::are_counts;
 use operation::HELD;
-use operation::keep::same;
 
-// Whether `op` is the front of the queue, under its number.
-pub fn as_issued(m: Machine, number: u64, op: &[u8]) -> bool
-    requires { shaped limits m ≡ true }
-    ensures { result ≡ as_issued m number op.now }
-{
-    if m.waiting < 1 {
-        return false;
+impl Machine {
+    // Whether there can be such a record: its machine, its operation's number and its own.
+    pub(crate) fn in_range(&self, n: u64, who: usize, number: u64) -> bool
+        ensures { result ≡ ltb who self.now.machines && (ltb number most_issued && ltb n most_decided) }
+    {
+        who < self.machines && number < Machine::ISSUED && n < Machine::DECIDED
     }
-    if number != m.done {
-        return false;
-    }
-    let o = m.queue[0];
-    let bytes = o.bytes;
-    same(bytes, index(o.len), op)
-}
 
-// Whether a copy can be one.
-pub fn fits(m: Machine, position: u64, cells: &[u32], decided: u64) -> bool
-    ensures { result ≡ copy_good limits m position cells.now decided }
-{
-    if Machine::DECIDED < position {
-        return false;
+    // Whether a copy can be one.
+    #[tactic(auto, unfolding(crate::specs::Copying::copy_good))]
+    pub(crate) fn fits(&self, position: u64, cells: &[u32], decided: u64) -> bool
+        ensures { result ≡ copy_good limits self.now position cells.now decided }
+    {
+        position <= Machine::DECIDED
+            && cells.len() == self.width
+            && are_counts(cells, cells.len(), HELD)
+            && decided <= Machine::ISSUED
     }
-    if cells.len() != m.width {
-        return false;
-    }
-    if !are_counts(cells, cells.len(), HELD) {
-        return false;
-    }
-    decided <= Machine::ISSUED
 }

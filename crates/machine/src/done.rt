@@ -1,132 +1,112 @@
 // What each call does, once nothing is refused.
-ghost use Rattle.std.specs.Prelude.{◌≡◌, ◌≤◌, ◌<◌, length};
+ghost use Rattle.std.specs.Prelude.{◌≡◌, ◌≤◌, ◌<◌, length, Ok};
 ghost use Rattle.operation.specs.Limits.{limits};
 ghost use Rattle.effect.specs.Running.{did};
 ghost use Rattle.effect.specs.Replaying.{most_queued, Ready};
 ghost use Rattle.state.specs.Numbers.{most_issued, most_decided};
 ghost use Rattle.machine.specs.Numbers.{note_count};
+ghost use Rattle.machine.specs.Telling.{issue_told, note_told, record_told, copy_told};
 ghost use Rattle.machine.specs.Issuing.{sold};
 ghost use Rattle.machine.specs.Noting.{written};
-ghost use Rattle.machine.specs.Starting.{started, bad_start};
+ghost use Rattle.machine.specs.Starting.{started};
 ghost use Rattle.machine.specs.Queueing.{advanced, Own, Leaving};
 ghost use Rattle.machine.specs.Recording.{own_taken, other_taken};
 ghost use Rattle.machine.specs.Copying.{copied};
 
-use crate::{Copied, Issued, Machine, Made, Noted, Taken};
-use basics::Answer;
-use effect::{Cells, Queue, bit};
-use operation::keep::pack;
-use operation::{BYTES, CELLS, Packed};
+use crate::{Heard, Machine};
+use effect::{Cells, Queue};
+use operation::{BYTES, Packed};
 
-// The guess changes, and the operation joins the queue under the next number.
-pub fn sell(mut m: Machine, op: &[u8], guess: Cells) -> Issued
-    requires { (m.waiting < most_queued) × ((m.issued < most_issued) × (length op.now ≤ limits.bytes)) }
-    ensures { result ≡ sold limits m op.now guess }
-{
-    let at = m.waiting;
-    let number = m.issued;
-    m.guess = guess;
-    m.queue[at] = pack(op);
-    m.waiting = at + 1;
-    m.issued = number + 1;
-    Issued {
-        answer: Answer::Done,
-        number,
-        machine: m,
+const EMPTY: Packed = Packed {
+    len: 0,
+    bytes: [0; BYTES],
+};
+
+impl Machine {
+    // The guess changes, and the operation joins the queue under the next number.
+    #[tactic(auto, unfolding(crate::specs::Issuing::sold))]
+    pub(crate) fn sell(&mut self, op: &[u8], guess: Cells) -> u64
+        requires { (self.old.waiting < most_queued) × ((self.old.issued < most_issued) × (length op.now ≤ limits.bytes)) }
+        ensures { issue_told (Ok result) self.new ≡ sold limits self.old op.now guess }
+    {
+        let number = self.issued;
+        self.guess = guess;
+        self.queue[self.waiting] = Packed::of(op);
+        self.waiting += 1;
+        self.issued += 1;
+        number
     }
-}
 
-// A note is written.
-pub fn write(mut m: Machine, k: usize, cell: usize) -> Noted
-    requires { (k < note_count) × (cell < limits.cells) }
-    ensures { result ≡ written m k cell }
-{
-    let count = m.guess[cell];
-    m.notes[k] = count;
-    Noted {
-        answer: Answer::Done,
-        count,
-        machine: m,
+    // A note is written.
+    #[tactic(auto, unfolding(crate::specs::Noting::written))]
+    pub(crate) fn write(&mut self, k: usize, cell: usize) -> u32
+        requires { (k < note_count) × (cell < limits.cells) }
+        ensures { note_told (Ok result) self.new ≡ written self.old k cell }
+    {
+        let count = self.guess[cell];
+        self.notes[k] = count;
+        count
     }
-}
 
-// An own record: the front of the queue goes, and kept or lost grows. The guess stays.
-pub fn take_own(mut m: Machine, agreed: Cells, ok: bool) -> Taken
-    requires { Own m }
-    ensures { result ≡ own_taken limits m (did ok agreed) }
-{
-    let outcome = bit(ok);
-    let queue = m.queue;
-    let rest = advance(queue, 1);
-    m.queue = rest;
-    m.agreed = agreed;
-    m.position = m.position + 1;
-    m.waiting = m.waiting - 1;
-    m.done = m.done + 1;
-    m.kept = m.kept + outcome as u64;
-    m.lost = m.lost + bit(!ok) as u64;
-    Taken {
-        answer: Answer::Done,
-        outcome,
-        machine: m,
+    // An own record: the front of the queue goes, and kept or lost grows. The guess stays.
+    #[tactic(auto, unfolding(crate::specs::Recording::own_taken))]
+    pub(crate) fn take_own(&mut self, agreed: Cells, ok: bool) -> Heard
+        requires { Own self.old }
+        ensures { record_told (Ok result) self.new ≡ own_taken limits self.old (did ok agreed) }
+    {
+        self.agreed = agreed;
+        self.position += 1;
+        self.queue = advance(&self.queue, 1);
+        self.waiting -= 1;
+        self.done += 1;
+        if ok {
+            self.kept += 1;
+            Heard::Kept
+        } else {
+            self.lost += 1;
+            Heard::Lost
+        }
     }
-}
 
-// Another's: the queue is replayed on the new agreed cells.
-pub fn take_other(mut m: Machine, agreed: Cells) -> Taken
-    requires { Ready limits m.width m.waiting m.queue × (m.position ≤ most_decided) }
-    ensures { result ≡ other_taken limits m agreed }
-{
-    let queue = m.queue;
-    let mut guess = agreed;
-    effect::replay(queue, m.waiting, m.width, &mut guess);
-    m.agreed = agreed;
-    m.position = m.position + 1;
-    m.guess = guess;
-    Taken {
-        answer: Answer::Done,
-        outcome: 2,
-        machine: m,
+    // Another's: the queue is replayed on the new agreed cells.
+    #[tactic(auto, unfolding(crate::specs::Recording::other_taken))]
+    pub(crate) fn take_other(&mut self, agreed: Cells) -> Heard
+        requires { Ready limits self.old.width self.old.waiting self.old.queue × (self.old.position ≤ most_decided) }
+        ensures { record_told (Ok result) self.new ≡ other_taken limits self.old agreed }
+    {
+        let mut guess = agreed;
+        effect::replay(&self.queue[..self.waiting], self.width, &mut guess);
+        self.agreed = agreed;
+        self.position += 1;
+        self.guess = guess;
+        Heard::Another
     }
-}
 
-// A copy: the `left` oldest leave the queue unheard, and the rest is replayed.
-pub fn copy(mut m: Machine, position: u64, cells: Cells, left: usize) -> Copied
-    requires { Leaving limits m left }
-    ensures { result ≡ copied limits m position cells left }
-{
-    let queue = m.queue;
-    let rest = advance(queue, left);
-    let mut guess = cells;
-    effect::replay(rest, m.waiting - left, m.width, &mut guess);
-    m.agreed = cells;
-    m.position = position;
-    m.guess = guess;
-    m.waiting = m.waiting - left;
-    m.queue = rest;
-    m.done = m.done + left as u64;
-    m.unheard = m.unheard + left as u64;
-    Copied {
-        answer: Answer::Done,
-        left,
-        machine: m,
+    // A copy: the `left` oldest leave the queue unheard, and the rest is replayed.
+    #[tactic(auto, unfolding(crate::specs::Copying::copied))]
+    pub(crate) fn copy(&mut self, position: u64, cells: Cells, left: usize)
+        requires { Leaving limits self.old left }
+        ensures { copy_told (Ok left) self.new ≡ copied limits self.old position cells left }
+    {
+        self.queue = advance(&self.queue, left);
+        self.waiting -= left;
+        let mut guess = cells;
+        effect::replay(&self.queue[..self.waiting], self.width, &mut guess);
+        self.agreed = cells;
+        self.position = position;
+        self.guess = guess;
+        self.done += left as u64;
+        self.unheard += left as u64;
     }
 }
 
 // The first `n` leave the queue, the others move up, and the last places are empty.
-pub fn advance(queue: Queue, n: usize) -> Queue
+fn advance(queue: &Queue, n: usize) -> Queue
     requires { n ≤ most_queued }
-    ensures { result ≡ advanced limits n queue }
+    ensures { result ≡ advanced limits n queue.now }
 {
-    let mut next = [Packed {
-        len: 0,
-        bytes: [0u8; BYTES],
-    }; Machine::QUEUE];
-    let mut i: usize = 0;
-    while i < Machine::QUEUE - n {
-        next[i] = queue[n + i];
-        i += 1;
-    }
+    let mut next = [EMPTY; Machine::QUEUE];
+    next[..Machine::QUEUE - n].copy_from_slice(&queue[n..]);
     next
 }
 
@@ -142,24 +122,12 @@ pub fn start(machines: usize, width: usize, me: usize, cells: Cells) -> Machine
         position: 0,
         guess: cells,
         waiting: 0,
-        queue: [Packed {
-            len: 0,
-            bytes: [0u8; BYTES],
-        }; Machine::QUEUE],
+        queue: [EMPTY; Machine::QUEUE],
         issued: 0,
         done: 0,
         kept: 0,
         lost: 0,
         unheard: 0,
-        notes: [0u32; Machine::NOTES],
-    }
-}
-
-pub fn refuse_start() -> Made
-    ensures { result ≡ bad_start limits }
-{
-    Made {
-        answer: Answer::BadStart,
-        machine: start(0, 0, 0, [0u32; CELLS]),
+        notes: [0; Machine::NOTES],
     }
 }

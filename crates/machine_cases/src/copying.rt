@@ -4,51 +4,50 @@ use machine::Machine;
 use std::io;
 
 pub fn walk(rt: &impl Print) -> io::Result<()> {
-    report::words(
-        rt,
-        b"Fresh copy: 1 out of shape, 13 bad copy, 10 position not above ours, 12 decided below done or above issued\n",
+    rt.println(
+        "Fresh copy: 1 out of shape, 13 bad copy, 10 position not above ours, 12 decided below done or above issued",
     )?;
     let cells = [9u32, 1, 999_999];
     let large = [9u32, 1_000_000];
     let m = machines::busy();
-    tried(rt, b"done, none left the queue", m, 8, &cells[..2], 3)?;
-    tried(rt, b"done, one left", m, 8, &cells[..2], 4)?;
-    tried(rt, b"done, both left", m, 40_000_000_000, &cells[..2], 5)?;
-    tried(rt, b"1", machines::out_of_shape(m), 8, &cells[..2], 3)?;
-    tried(rt, b"1 and 13", machines::out_of_shape(m), 8, &cells, 3)?;
-    tried(rt, b"13 by the position", m, 40_000_000_001, &cells[..2], 3)?;
-    tried(rt, b"13 by a cell too few", m, 8, &cells[..1], 3)?;
-    tried(rt, b"13 by a cell too many", m, 8, &cells, 3)?;
-    tried(rt, b"13 by a cell of 1000000", m, 8, &large, 3)?;
+    tried(rt, "done, none left the queue", m, 8, &cells[..2], 3)?;
+    tried(rt, "done, one left", m, 8, &cells[..2], 4)?;
+    tried(rt, "done, both left", m, 40_000_000_000, &cells[..2], 5)?;
+    tried(rt, "1", machines::out_of_shape(m), 8, &cells[..2], 3)?;
+    tried(rt, "1 and 13", machines::out_of_shape(m), 8, &cells, 3)?;
+    tried(rt, "13 by the position", m, 40_000_000_001, &cells[..2], 3)?;
+    tried(rt, "13 by a cell too few", m, 8, &cells[..1], 3)?;
+    tried(rt, "13 by a cell too many", m, 8, &cells, 3)?;
+    tried(rt, "13 by a cell of 1000000", m, 8, &large, 3)?;
     tried(
         rt,
-        b"13 by what is decided",
+        "13 by what is decided",
         m,
         8,
         &cells[..2],
         1_000_000_001,
     )?;
-    tried(rt, b"13 and 10", m, 7, &cells, 3)?;
-    tried(rt, b"10 by the same position", m, 7, &cells[..2], 3)?;
-    tried(rt, b"10 by a lower one", m, 6, &cells[..2], 3)?;
-    tried(rt, b"10 and 12", m, 7, &cells[..2], 2)?;
-    tried(rt, b"12 below done", m, 8, &cells[..2], 2)?;
-    tried(rt, b"12 above issued", m, 8, &cells[..2], 6)
+    tried(rt, "13 and 10", m, 7, &cells, 3)?;
+    tried(rt, "10 by the same position", m, 7, &cells[..2], 3)?;
+    tried(rt, "10 by a lower one", m, 6, &cells[..2], 3)?;
+    tried(rt, "10 and 12", m, 7, &cells[..2], 2)?;
+    tried(rt, "12 below done", m, 8, &cells[..2], 2)?;
+    tried(rt, "12 above issued", m, 8, &cells[..2], 6)
 }
 
 // The line of one copy.
 fn tried(
     rt: &impl Print,
-    what: &[u8],
-    m: Machine,
+    what: &str,
+    before: Machine,
     position: u64,
     cells: &[u32],
     decided: u64,
 ) -> io::Result<()> {
     report::case(rt, what)?;
+    let mut m = before;
     let copied = m.take_copy(position, cells, decided);
-    let answer = copied.answer;
-    report::answer(rt, answer)?;
-    report::value(rt, b"left", copied.left as u64)?;
-    machines::end(rt, answer, m, copied.machine)
+    report::answer(rt, copied)?;
+    report::value(rt, "left", copied.unwrap_or(0))?;
+    machines::end(rt, copied, &before, &m)
 }

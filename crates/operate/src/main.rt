@@ -3,6 +3,7 @@
 #![tactic(auto)]
 
 use std::io;
+use trial::Lines;
 
 // One byte of the buffer is left over, so that longer input is not taken for its first part.
 const MOST: usize = 65_535;
@@ -19,11 +20,8 @@ fn show(rt: &impl Print, line: &[u8]) -> io::Result<()> {
 
 // Shows each line of the input, the last with or without its end.
 fn show_all(rt: &impl Print, text: &[u8]) -> io::Result<()> {
-    let mut at = 0;
-    while at < text.len() {
-        let end = trial::line_end(text, at);
-        show(rt, &text[at..end])?;
-        at = end + 1;
+    for line in Lines(text) {
+        show(rt, line)?;
     }
     Ok(())
 }

@@ -6,6 +6,7 @@ use mathlib.Core.Logic.{◌↔◌}
 use mathlib.Core.Path.{◌≡◌, refl, sym, ap}
 use mathlib.Core.List.{List, [], ◌∷◌, ◌++◌, append_assoc, append-nil}
 use mathlib.Core.Option.{some, bind}
+use Rattle.std.specs.Prelude.{Some}
 use lib.ListN.{length, drop, length-append}
 use lib.Seq.{drop_at}
 use borrow.Author.Tests.{le-leb, eq-eqb}
@@ -40,7 +41,6 @@ use Rattle.operation.specs.Writing.{
 use Rattle.operation.specs.declared.Plain.{Plain}
 use Rattle.operation.specs.declared.Plain.TheVariants.{Need, Put, Draw, Move}
 use Rattle.operation.specs.declared.kind.Kind.TheVariants.{One, Atomic, Orelse}
-use Rattle.operation.specs.declared.kind.Fields.TheVariants.{Of}
 use Rattle.operation.proofs.FirstBytes.{
   PlainRead,
   kind_is,
@@ -85,34 +85,34 @@ amount_back amount = omega arith
 -- the bytes of each kind, whatever follows them, are of that kind
 module _ (l : Limits) (width : ℕ) where
   module _ (code cell amount : ℕ) (rest : List ℕ) (below : cell < width) (least : 1 ≤ amount) (most : amount ≤ l.amount) where
-    fields_back : Of cell amount ≡ fields_at l width (code ∷ cell ∷ (amount_bytes amount ++ rest)) 1
+    fields_back : Some (cell, amount) ≡ fields_at l width (code ∷ cell ∷ (amount_bytes amount ++ rest)) 1
     fields_back =
         fields_of l width (code ∷ cell ∷ (amount_bytes amount ++ rest)) 1 (omega arith) below amount
         (amount_back amount) least most
 
-  plain_back : (p : Plain) (rest : List ℕ) → PlainWithin l width p → One p ≡ kind_of l width (plain_bytes p ++ rest)
+  plain_back : (p : Plain) (rest : List ℕ) → PlainWithin l width p → Some (One p) ≡ kind_of l width (plain_bytes p ++ rest)
   plain_back (Need cell amount) rest w =
-      kind_need l width (0x01 ∷ cell ∷ (amount_bytes amount ++ rest)) (omega arith) (Of cell amount)
+      kind_need l width (0x01 ∷ cell ∷ (amount_bytes amount ++ rest)) (omega arith) (Some (cell, amount))
       (fields_back 0x01 cell amount rest w.0 w.1 w.2) refl
   plain_back (Put cell amount) rest w =
-      kind_put l width (0x02 ∷ cell ∷ (amount_bytes amount ++ rest)) (omega arith) (Of cell amount)
+      kind_put l width (0x02 ∷ cell ∷ (amount_bytes amount ++ rest)) (omega arith) (Some (cell, amount))
       (fields_back 0x02 cell amount rest w.0 w.1 w.2) refl
   plain_back (Draw cell amount) rest w =
-      kind_draw l width (0x03 ∷ cell ∷ (amount_bytes amount ++ rest)) (omega arith) (Of cell amount)
+      kind_draw l width (0x03 ∷ cell ∷ (amount_bytes amount ++ rest)) (omega arith) (Some (cell, amount))
       (fields_back 0x03 cell amount rest w.0 w.1 w.2) refl
   plain_back (Move from to amount) rest w =
       let s : List ℕ = 0x04 ∷ from ∷ to ∷ (amount_bytes amount ++ rest) in
-      kind_move l width s (omega arith) (One (Move from to amount))
+      kind_move l width s (omega arith) (Some (One (Move from to amount)))
       (move_of_lem l width s to amount
       (fields_of l width s 2 (omega arith) w.1 amount (amount_back amount) w.3 w.4) w.0 w.2)
       refl
 
-  atomic_back : (n : ℕ) (rest : List ℕ) → n ≤ l.parts → Atomic n ≡ kind_of l width (0x10 ∷ n ∷ rest)
+  atomic_back : (n : ℕ) (rest : List ℕ) → n ≤ l.parts → Some (Atomic n) ≡ kind_of l width (0x10 ∷ n ∷ rest)
   atomic_back n rest most =
-      kind_atomic l width (0x10 ∷ n ∷ rest) (omega arith) (Atomic n)
+      kind_atomic l width (0x10 ∷ n ∷ rest) (omega arith) (Some (Atomic n))
       (atomic_of_lem l (0x10 ∷ n ∷ rest) (omega arith) most) refl
 
-  orelse_back : (rest : List ℕ) → Orelse ≡ kind_of l width (0x11 ∷ rest)
+  orelse_back : (rest : List ℕ) → Some Orelse ≡ kind_of l width (0x11 ∷ rest)
   orelse_back rest = kind_orelse l width (0x11 ∷ rest) (omega arith) refl
 
   -- what follows an operation's bytes is left when they are read
@@ -173,9 +173,9 @@ module _ (l : Limits) (width : ℕ) where
   all_within : ByKinds l width Within AllWithin
   unfolding OpWithin count
   all_within = record {
-    on_plain = λ d s p h. record { within = plain_within s p (kind_is l width s (One p) h) };
+    on_plain = λ d s p h. record { within = plain_within s p (kind_is l width s (Some (One p)) h) };
     on_atomic = λ d n s ps h r. record {
-      within = (omega (arith, r.counted, (kind_is l width s (Atomic n) h).3), r.within);
+      within = (omega (arith, r.counted, (kind_is l width s (Some (Atomic n)) h).3), r.within);
     };
     on_orelse = λ d s p q h f g. record { within = (f.within, g.within) };
     on_end = λ d s. record { counted = refl; within = tt };

@@ -6,93 +6,44 @@ use mathlib.Core.Bool.{false, not, ◌&&◌}
 use mathlib.Core.List.{List}
 use lib.Dec.{ltb, leb, eqb}
 use lib.ListN.{length}
-use borrow.Author.Tests.{
-  lt-ltb,
-  le-ltb,
-  le-leb,
-  lt-leb,
-  eq-eqb,
-  ne_eqb,
-  ltb-true,
-  leb-true,
-  eqb-true,
-  eqb-false,
-  not-true,
-}
+use borrow.Author.Tests.{lt-ltb, le-ltb, le-leb, ne_eqb, ltb-true, leb-true, eqb-true, eqb-false, not-true}
+use Rattle.std.specs.Prelude.{Option, Some, None}
 use Rattle.basics.proofs.Choice.{by_cases, and_both}
 use Rattle.operation.specs.Limits.{Limits}
-use Rattle.operation.specs.FirstBytes.{byte, two, fields_at, plain_of, move_from, move_of, atomic_of, kind_of}
+use Rattle.operation.specs.FirstBytes.{Fields, byte, two, fields_at, plain_of, move_from, move_of, atomic_of, kind_of}
 use Rattle.operation.specs.declared.Plain.{Plain}
 use Rattle.operation.specs.declared.Plain.TheVariants.{Need, Put, Draw, Move}
 use Rattle.operation.specs.declared.kind.Kind.{Kind}
-use Rattle.operation.specs.declared.kind.Kind.TheVariants.{One, Atomic, Orelse, Malformed}
-use Rattle.operation.specs.declared.kind.Fields.{Fields}
-use Rattle.operation.specs.declared.kind.Fields.TheVariants.{Of, Wrong}
+use Rattle.operation.specs.declared.kind.Kind.TheVariants.{One, Atomic, Orelse}
 
 module _ (l : Limits) (s : List ℕ) where
-  pub atomic_short : length s < 2 → Malformed ≡ atomic_of l s
-  unfolding atomic_of
-  atomic_short h = simp (lt-leb _ _ h)
-
-  pub atomic_many : 2 ≤ length s → l.parts < byte s 1 → Malformed ≡ atomic_of l s
-  unfolding atomic_of
-  atomic_many g h = simp (le-leb _ _ g, lt-leb _ _ h)
-
-  pub atomic_of_lem : 2 ≤ length s → byte s 1 ≤ l.parts → Atomic (byte s 1) ≡ atomic_of l s
+  pub atomic_of_lem : 2 ≤ length s → byte s 1 ≤ l.parts → Some (Atomic (byte s 1)) ≡ atomic_of l s
   unfolding atomic_of
   atomic_of_lem g h = simp (le-leb _ _ g, le-leb _ _ h)
 
 module _ (l : Limits) (width : ℕ) (s : List ℕ) where
-  module _ (at : ℕ) where
-    pub fields_short : length s < at + 3 → Wrong ≡ fields_at l width s at
-    unfolding fields_at
-    fields_short h = simp (lt-leb _ _ h)
+  pub fields_of :
+      (at : ℕ) → at + 3 ≤ length s → byte s at < width → (a : ℕ) → a ≡ two (byte s (at + 1)) (byte s (at + 2)) →
+      1 ≤ a → a ≤ l.amount → Some (byte s at, a) ≡ fields_at l width s at
+  unfolding fields_at
+  fields_of at long cell a amount g h =
+      simp (le-leb _ _ long, lt-ltb _ _ cell, ← amount, le-leb _ _ g, le-leb _ _ h)
 
-    module _ (long : at + 3 ≤ length s) where
-      pub fields_cell : width ≤ byte s at → Wrong ≡ fields_at l width s at
-      unfolding fields_at
-      fields_cell h = simp (le-leb _ _ long, le-ltb _ _ h)
-
-      module _ (cell : byte s at < width) (a : ℕ) (amount : a ≡ two (byte s (at + 1)) (byte s (at + 2))) where
-        pub fields_low : a < 1 → Wrong ≡ fields_at l width s at
-        unfolding fields_at
-        fields_low h = simp (le-leb _ _ long, lt-ltb _ _ cell, ← amount, lt-leb _ _ h)
-
-        pub fields_high : 1 ≤ a → l.amount < a → Wrong ≡ fields_at l width s at
-        unfolding fields_at
-        fields_high g h = simp (le-leb _ _ long, lt-ltb _ _ cell, ← amount, le-leb _ _ g, lt-leb _ _ h)
-
-        pub fields_of : 1 ≤ a → a ≤ l.amount → Of (byte s at) a ≡ fields_at l width s at
-        unfolding fields_at
-        fields_of g h = simp (le-leb _ _ long, lt-ltb _ _ cell, ← amount, le-leb _ _ g, le-leb _ _ h)
-
-  pub move_wrong : Wrong ≡ fields_at l width s 2 → Malformed ≡ move_of l width s
-  unfolding move_of move_from
-  move_wrong e = rw (← e)
-
-  module _ (to amount : ℕ) (fields : Of to amount ≡ fields_at l width s 2) where
-    pub move_from_lem : width ≤ byte s 1 → Malformed ≡ move_of l width s
+  module _ (to amount : ℕ) (fields : Some (to, amount) ≡ fields_at l width s 2) where
+    pub move_from_lem : width ≤ byte s 1 → None ≡ move_of l width s
     unfolding move_of move_from
     move_from_lem h = rw (← fields) (simp (le-ltb _ _ h))
 
-    pub move_same : byte s 1 < width → byte s 1 ≡ to → Malformed ≡ move_of l width s
-    unfolding move_of move_from
-    move_same g h = rw (← fields) (simp (lt-ltb _ _ g, eq-eqb _ _ h))
-
-    pub move_of_lem : byte s 1 < width → (byte s 1 ≡ to → ⊥) → One (Move (byte s 1) to amount) ≡ move_of l width s
+    pub move_of_lem : byte s 1 < width → (byte s 1 ≡ to → ⊥) → Some (One (Move (byte s 1) to amount)) ≡ move_of l width s
     unfolding move_of move_from
     move_of_lem g h = rw (← fields) (simp (lt-ltb _ _ g, ne_eqb _ _ h))
-
-  pub kind_none : length s < 1 → Malformed ≡ kind_of l width s
-  unfolding kind_of
-  kind_none h = simp (eq-eqb (length s) 0 (omega arith))
 
   -- the kind that each first byte decides
   module _ (some : 1 ≤ length s) where
     not_none : eqb (length s) 0 ≡ false
     not_none = ne_eqb (length s) 0 (omega arith)
 
-    module _ (f : Fields) (fields : f ≡ fields_at l width s 1) where
+    module _ (f : Option Fields) (fields : f ≡ fields_at l width s 1) where
       pub kind_need : byte s 0 ≡ 0x01 → plain_of Need f ≡ kind_of l width s
       unfolding kind_of
       kind_need h = rw fields (simp (not_none, h))
@@ -105,24 +56,17 @@ module _ (l : Limits) (width : ℕ) (s : List ℕ) where
       unfolding kind_of
       kind_draw h = rw fields (simp (not_none, h))
 
-    pub kind_move : (k : Kind) → k ≡ move_of l width s → byte s 0 ≡ 0x04 → k ≡ kind_of l width s
+    pub kind_move : (k : Option Kind) → k ≡ move_of l width s → byte s 0 ≡ 0x04 → k ≡ kind_of l width s
     unfolding kind_of
     kind_move k e h = rw e (simp (not_none, h))
 
-    pub kind_atomic : (k : Kind) → k ≡ atomic_of l s → byte s 0 ≡ 0x10 → k ≡ kind_of l width s
+    pub kind_atomic : (k : Option Kind) → k ≡ atomic_of l s → byte s 0 ≡ 0x10 → k ≡ kind_of l width s
     unfolding kind_of
     kind_atomic k e h = rw e (simp (not_none, h))
 
-    pub kind_orelse : byte s 0 ≡ 0x11 → Orelse ≡ kind_of l width s
+    pub kind_orelse : byte s 0 ≡ 0x11 → Some Orelse ≡ kind_of l width s
     unfolding kind_of
     kind_orelse h = simp (not_none, h)
-
-    pub kind_other :
-        (byte s 0 ≡ 0x01 → ⊥) → (byte s 0 ≡ 0x02 → ⊥) → (byte s 0 ≡ 0x03 → ⊥) → (byte s 0 ≡ 0x04 → ⊥) →
-        (byte s 0 ≡ 0x10 → ⊥) → (byte s 0 ≡ 0x11 → ⊥) → Malformed ≡ kind_of l width s
-    unfolding kind_of
-    kind_other a b c d e f =
-        simp (not_none, ne_eqb _ _ a, ne_eqb _ _ b, ne_eqb _ _ c, ne_eqb _ _ d, ne_eqb _ _ e, ne_eqb _ _ f)
 
 -- what a cell and an amount that were read say of the bytes at `at`
 pub record FieldsRead (l : Limits) (width : ℕ) (s : List ℕ) (at cell amount : ℕ) : Type 0 where
@@ -142,15 +86,15 @@ module _ (l : Limits) (width : ℕ) (s : List ℕ) where
   PlainRead (Move from to amount) =
       (byte s 0 ≡ 0x04) × FieldsRead l width s 2 to amount × (from ≡ byte s 1) × (from < width) × (from ≡ to → ⊥)
 
-  abbrev pub KindRead : Kind → Type 0
-  KindRead (One p) = PlainRead p
-  KindRead (Atomic n) = (byte s 0 ≡ 0x10) × (2 ≤ length s) × (n ≡ byte s 1) × (n ≤ l.parts)
-  KindRead Orelse = (byte s 0 ≡ 0x11) × (1 ≤ length s)
-  KindRead Malformed = Unit {0}
+  abbrev pub KindRead : Option Kind → Type 0
+  KindRead (Some (One p)) = PlainRead p
+  KindRead (Some (Atomic n)) = (byte s 0 ≡ 0x10) × (2 ≤ length s) × (n ≡ byte s 1) × (n ≤ l.parts)
+  KindRead (Some Orelse) = (byte s 0 ≡ 0x11) × (1 ≤ length s)
+  KindRead None = Unit {0}
 
-  abbrev FieldsAre : ℕ → Fields → Type 0
-  FieldsAre at (Of cell amount) = FieldsRead l width s at cell amount
-  FieldsAre at Wrong = Unit {0}
+  abbrev FieldsAre : ℕ → Option Fields → Type 0
+  FieldsAre at (Some (cell, amount)) = FieldsRead l width s at cell amount
+  FieldsAre at None = Unit {0}
 
   fields_read : (at : ℕ) → FieldsAre at (fields_at l width s at)
   unfolding fields_at
@@ -174,26 +118,22 @@ module _ (l : Limits) (width : ℕ) (s : List ℕ) where
       (λ _. tt))
       (λ _. tt)
 
-  pub fields_are :
-      (at cell amount : ℕ) → Of cell amount ≡ fields_at l width s at → FieldsRead l width s at cell amount
-  fields_are at cell amount e = rw (← e) at (fields_read at)
-
   plain_read :
       (kind : ℕ → ℕ → Plain) →
       ((cell amount : ℕ) → FieldsRead l width s 1 cell amount → PlainRead (kind cell amount)) →
-      (f : Fields) → FieldsAre 1 f → KindRead (plain_of kind f)
-  plain_read kind says (Of cell amount) r = says cell amount r
-  plain_read kind says Wrong r = tt
+      (f : Option Fields) → FieldsAre 1 f → KindRead (plain_of kind f)
+  plain_read kind says (Some (cell, amount)) r = says cell amount r
+  plain_read kind says None r = tt
 
-  move_read : byte s 0 ≡ 0x04 → (f : Fields) → FieldsAre 2 f → KindRead (move_from l width (byte s 1) f)
+  move_read : byte s 0 ≡ 0x04 → (f : Option Fields) → FieldsAre 2 f → KindRead (move_from l width (byte s 1) f)
   unfolding move_from
-  move_read code (Of to amount) r =
+  move_read code (Some (to, amount)) r =
       by_cases KindRead (ltb (byte s 1) width && not (eqb (byte s 1) to))
       (λ h.
       let (below, other) = and_both _ _ h in
       (code, r, refl, ltb-true _ _ below, eqb-false _ _ (not-true _ other)))
       (λ _. tt)
-  move_read code Wrong r = tt
+  move_read code None r = tt
 
   atomic_read : byte s 0 ≡ 0x10 → KindRead (atomic_of l s)
   unfolding atomic_of
@@ -221,5 +161,5 @@ module _ (l : Limits) (width : ℕ) (s : List ℕ) where
       eqb-false _ _ some in (eqb-true _ _ e, omega arith)) λ _. tt
 
   -- the same of a kind that is known
-  pub kind_is : (k : Kind) → k ≡ kind_of l width s → KindRead k
+  pub kind_is : (k : Option Kind) → k ≡ kind_of l width s → KindRead k
   kind_is k e = rw (← e) at kind_read

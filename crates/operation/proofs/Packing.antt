@@ -2,9 +2,10 @@
 use Prim.Native.Nat.{ℕ, zero-le}
 use mathlib.Core.Bool.{Bool, true, false, false≢true}
 use mathlib.Core.List.{List, [], ◌∷◌}
-use mathlib.Core.Path.{◌≡◌, refl, sym}
+use mathlib.Core.Path.{◌≡◌, refl}
 use lib.Dec.{ltb, eqb}
 use lib.ListN.{length, get_or, drop, replicate}
+use lib.Pointwise.{pointwise}
 use lib.Seq.{take-length, take-append_seam}
 use borrow.Author.Tests.{le-ltb, eq-eqb, eqb-true, ltb-false}
 use Rattle.basics.specs.Over.{over}
@@ -16,11 +17,6 @@ use Rattle.basics.proofs.Over.{all_zero, over_past}
 use Rattle.operation.specs.Limits.{Limits}
 use Rattle.operation.specs.Packing.{unpacked, packed, same_bytes}
 
-pub same_refl : (s : List ℕ) → same_bytes s s ≡ true
-unfolding same_bytes
-same_refl [] = refl
-same_refl (x ∷ s) = rw (eq-eqb x x refl) (same_refl s)
-
 pub same_is : (s t : List ℕ) → same_bytes s t ≡ true → s ≡ t
 unfolding same_bytes
 same_is [] [] h = refl
@@ -30,14 +26,13 @@ same_is (x ∷ s) (y ∷ t) h =
     let (a, b) = and_both (eqb x y) (same_bytes s t) h in
     rw (eqb-true x y a, same_is s t b)
 
--- a test that holds exactly where they are equal is this one
-pub same_test : (r : Bool) (s t : List ℕ) → (r ≡ true → s ≡ t) × (s ≡ t → r ≡ true) → r ≡ same_bytes s t
-same_test true s t h = sym (rw (h.0 refl) (same_refl t))
-same_test false s t h = go (same_bytes s t) refl
-  where
-    go : (b : Bool) → same_bytes s t ≡ b → false ≡ b
-    go true e = absurd (false≢true (h.1 (same_is s t e)))
-    go false e = refl
+-- what `==` tells of two slices
+pub same_slices : (s t : List ℕ) → pointwise eqb s t ≡ same_bytes s t
+unfolding same_bytes
+same_slices [] [] = refl
+same_slices [] (y ∷ t) = refl
+same_slices (x ∷ s) [] = refl
+same_slices (x ∷ s) (y ∷ t) = rw (same_slices s t)
 
 pub len_packed : (l : Limits) (s : List ℕ) → (packed l s).len ≡ length s
 unfolding packed

@@ -6,13 +6,14 @@ use mathlib.Core.Path.{◌≡◌, refl}
 use mathlib.Core.List.{List}
 use mathlib.Core.Option.{Option, some, none, map, bind}
 use lib.ListN.{drop}
+use Rattle.std.specs.Prelude.{Option as Known, Some, None}
 use Rattle.operation.specs.Limits.{Limits}
 use Rattle.operation.specs.FirstBytes.{kind_of}
 use Rattle.operation.specs.Tree.{Op, Ops, plain, atomic, orelse, end, ◌then◌, op_size}
 use Rattle.operation.specs.Reading.{read_parts, read_two, read_body, read_op}
 use Rattle.operation.specs.declared.Plain.{Plain}
 use Rattle.operation.specs.declared.kind.Kind.{Kind}
-use Rattle.operation.specs.declared.kind.Kind.TheVariants.{One, Atomic, Orelse, Malformed}
+use Rattle.operation.specs.declared.kind.Kind.TheVariants.{One, Atomic, Orelse}
 
 -- nothing is read where nothing can be
 pub none_some : {A : Type 0} {P : Type 0} (o : Option A) (a : A) → o ≡ none → o ≡ some a → P
@@ -92,12 +93,12 @@ module _ (inner : List ℕ → Option Op) where
 pub record ByKinds
     (l : Limits) (width : ℕ) (Q : ℕ → List ℕ → Op → Type 0) (Qs : ℕ → ℕ → List ℕ → Ops → Type 0)
     : Type 0 where
-  pub on_plain : (d : ℕ) (s : List ℕ) (p : Plain) → One p ≡ kind_of l width s → Q (suc d) s (plain p)
+  pub on_plain : (d : ℕ) (s : List ℕ) (p : Plain) → Some (One p) ≡ kind_of l width s → Q (suc d) s (plain p)
   pub on_atomic :
-      (d n : ℕ) (s : List ℕ) (ps : Ops) → Atomic n ≡ kind_of l width s → Qs d n (drop 2 s) ps →
+      (d n : ℕ) (s : List ℕ) (ps : Ops) → Some (Atomic n) ≡ kind_of l width s → Qs d n (drop 2 s) ps →
       Q (suc d) s (atomic ps)
   pub on_orelse :
-      (d : ℕ) (s : List ℕ) (p q : Op) → Orelse ≡ kind_of l width s → Q d (drop 1 s) p →
+      (d : ℕ) (s : List ℕ) (p q : Op) → Some Orelse ≡ kind_of l width s → Q d (drop 1 s) p →
       Q d (drop (op_size p) (drop 1 s)) q → Q (suc d) s (orelse p q)
   pub on_end : (d : ℕ) (s : List ℕ) → Qs d 0 s end
   pub on_then :
@@ -121,11 +122,11 @@ module _
 
     body_of :
         (d : ℕ) → ((s : List ℕ) (p : Op) → read_op l width d s ≡ some p → Q d s p) →
-        (s : List ℕ) (r : Op) (k : Kind) → k ≡ kind_of l width s → read_body (read_op l width d) k s ≡ some r →
+        (s : List ℕ) (r : Op) (k : Known Kind) → k ≡ kind_of l width s → read_body (read_op l width d) k s ≡ some r →
         Q (suc d) s r
     unfolding read_body
-    body_of d each s r (One p) h e = let v : r ≡ plain p = cc in rw v (cases.on_plain d s p h)
-    body_of d each s r (Atomic n) h e = go (read_parts (read_op l width d) n (drop 2 s)) refl e
+    body_of d each s r (Some (One p)) h e = let v : r ≡ plain p = cc in rw v (cases.on_plain d s p h)
+    body_of d each s r (Some (Atomic n)) h e = go (read_parts (read_op l width d) n (drop 2 s)) refl e
       where
         go :
             (o : Option Ops) → read_parts (read_op l width d) n (drop 2 s) ≡ o → map atomic o ≡ some r →
@@ -134,12 +135,12 @@ module _
             let v : r ≡ atomic ps = cc in
             rw v (cases.on_atomic d n s ps h (parts_of d each n (drop 2 s) ps i))
         go none i e = none_some none r refl e
-    body_of d each s r Orelse h e =
+    body_of d each s r (Some Orelse) h e =
         let t = two_of (read_op l width d) (drop 1 s) r e in
         let first = each (drop 1 s) t.first t.reads_first in
         let second = each (drop (op_size t.first) (drop 1 s)) t.second t.reads_second in
         rw t.joined (cases.on_orelse d s t.first t.second h first second)
-    body_of d each s r Malformed h e = none_some none r refl e
+    body_of d each s r None h e = none_some none r refl e
 
     pub reads_op : (d : ℕ) (s : List ℕ) (p : Op) → read_op l width d s ≡ some p → Q d s p
     unfolding read_op

@@ -1,6 +1,5 @@
 -- Laws of being an operation: which tests decide it, and what it is where they hold. Assumes nothing.
 use Prim.Native.Nat.{ℕ, zero, suc, ◌≤◌, ◌<◌}
-use native.Mathlib.Omega.{arith}
 use mathlib.Core.Path.{◌≡◌, refl, ◌∙◌}
 use mathlib.Core.Bool.{Bool, true, false, ◌&&◌, false≢true}
 use mathlib.Core.List.{List, []}
@@ -8,7 +7,8 @@ use mathlib.Core.Option.{Option, some, none}
 use lib.Dec.{leb, eqb}
 use lib.ListN.{length}
 use borrow.Author.Tests.{le-leb, lt-leb, leb-true, eqb-true}
-use Rattle.std.specs.Prelude.{if◌then◌else◌}
+use Rattle.std.specs.Prelude.{if◌then◌else◌, Some}
+use Rattle.std.specs.Option.{option_eq}
 use Rattle.basics.proofs.Choice.{and_both, by_cases}
 use Rattle.operation.specs.Limits.{Limits}
 use Rattle.operation.specs.FirstBytes.{kind_of}
@@ -16,7 +16,6 @@ use Rattle.operation.specs.Tree.{Op, op_size}
 use Rattle.operation.specs.Reading.{read_body, read_op, whole, operation_of, is_some, well_formed}
 use Rattle.operation.specs.Sizes.{size_of}
 use Rattle.operation.proofs.Reading.{none_some}
-use Rattle.operation.specs.declared.size.Size.TheVariants.{Bytes, Malformed as NoSize}
 
 module _ (l : Limits) (width : ℕ) (s : List ℕ) where
   pub many_cells : l.cells < width → false ≡ well_formed l width s
@@ -33,26 +32,21 @@ module _ (l : Limits) (width : ℕ) (s : List ℕ) where
       unfolding operation_of
       within = simp (le-leb _ _ cells, le-leb _ _ bytes)
 
-      pub no_size : NoSize ≡ size_of (read_op l width l.depth s) → false ≡ well_formed l width s
-      unfolding well_formed
-      no_size e = rw within (go (read_op l width l.depth s) e)
-        where
-          go : (o : Option Op) → NoSize ≡ size_of o → false ≡ is_some (whole (length s) o)
-          go (some p) e = let z : ◌≡◌ {A = ℕ} 0 1 = cc in absurd (omega arith)
-          go none e = refl
-
       pub by_size :
-          (k : ℕ) → Bytes k ≡ size_of (read_op l width l.depth s) → eqb k (length s) ≡ well_formed l width s
+          option_eq eqb (size_of (read_op l width l.depth s)) (Some (length s)) ≡ well_formed l width s
       unfolding well_formed
-      by_size k e = rw within (go (read_op l width l.depth s) e)
+      by_size = rw within (go (read_op l width l.depth s))
         where
           tested : (p : Op) (t : Bool) → t ≡ is_some (if t then some p else none)
           tested p true = refl
           tested p false = refl
 
-          go : (o : Option Op) → Bytes k ≡ size_of o → eqb k (length s) ≡ is_some (whole (length s) o)
-          go (some p) e = let v : k ≡ op_size p = cc in rw v (tested p (eqb (op_size p) (length s)))
-          go none e = let z : ◌≡◌ {A = ℕ} 0 1 = cc in absurd (omega arith)
+          go : (o : Option Op) → option_eq eqb (size_of o) (Some (length s)) ≡ is_some (whole (length s) o)
+          go (some p) = tested p (eqb (op_size p) (length s))
+          go none = refl
+
+-- one for each way out of the code that decides it
+pub ruleset well_formed_laws = (many_cells, many_bytes, by_size)
 
 -- what is known of bytes that are an operation
 pub record Formed (l : Limits) (width : ℕ) (s : List ℕ) (p : Op) : Type 0 where

@@ -6,6 +6,7 @@ use native.Mathlib.Omega.{arith}
 use mathlib.Core.Path.{◌≡◌, refl, sym, ap, ◌∙◌}
 use mathlib.Core.List.{List, [], ◌∷◌}
 use mathlib.Core.Option.{some}
+use Rattle.std.specs.Prelude.{Some}
 use lib.ListN.{length, get_or, take, drop}
 use lib.Seq.{take-add, get_or-drop, take-length, drop-cons}
 use Rattle.operation.specs.Limits.{Limits}
@@ -73,16 +74,16 @@ module _ (l : Limits) (width : ℕ) where
   begin : ByKinds l width Begins AllBegin
   unfolding op_size op_bytes bytes_at count
   begin = record {
-    on_plain = λ d s p h. record { begins = λ b. plain_bytes_lem l width s b p (kind_is l width s (One p) h) };
+    on_plain = λ d s p h. record { begins = λ b. plain_bytes_lem l width s b p (kind_is l width s (Some (One p)) h) };
     on_atomic = λ d n s ps h r. record {
       begins = λ b.
-          let k = kind_is l width s (Atomic n) h in
+          let k = kind_is l width s (Some (Atomic n)) h in
           take-add 2 (ops_size ps) s ∙
           rw (one_by_one 0 2 s k.1, r.begins (bytes_after 2 s b), k.0, r.counted, k.2);
     };
     on_orelse = λ d s p q h f g. record {
       begins = λ b.
-          let k = kind_is l width s Orelse h in
+          let k = kind_is l width s (Some Orelse) h in
           let after = bytes_after 1 s b in
           take-add 1 (op_size p + op_size q) s ∙
           rw (

@@ -1,11 +1,11 @@
 -- The operation that bytes are: from bytes to the tree. Assumes nothing: these are definitions.
-use Rattle.std.specs.Prelude.{ℕ, zero, suc, Bool, true, false, ◌&&◌, List, leb, eqb, length, drop, if◌then◌else◌}
+use Rattle.std.specs.Prelude.{ℕ, zero, suc, Bool, true, false, ◌&&◌, List, leb, eqb, length, drop, if◌then◌else◌, Option as Known, Some, None}
 use Rattle.std.proofs.Math.Option.{Option, some, none, map, bind}
 use Rattle.operation.specs.Limits.{Limits}
 use Rattle.operation.specs.FirstBytes.{kind_of}
 use Rattle.operation.specs.Tree.{Op, Ops, plain, atomic, orelse, end, ◌then◌, op_size}
 use Rattle.operation.specs.declared.kind.Kind.{Kind}
-use Rattle.operation.specs.declared.kind.Kind.TheVariants.{One, Atomic, Orelse, Malformed}
+use Rattle.operation.specs.declared.kind.Kind.TheVariants.{One, Atomic, Orelse}
 
 -- the n operations that s begins with, each read by `inner`
 unfoldable pub read_parts : (List ℕ → Option Op) → ℕ → List ℕ → Option Ops
@@ -18,11 +18,11 @@ unfoldable pub read_two : (List ℕ → Option Op) → List ℕ → Option Op
 read_two inner s = bind (inner s) (λ p. map (λ q. orelse p q) (inner (drop (op_size p) s)))
 
 -- the operation of this kind that s begins with, its parts read by `inner`
-unfoldable pub read_body : (List ℕ → Option Op) → Kind → List ℕ → Option Op
-read_body inner (One p) s = some (plain p)
-read_body inner (Atomic n) s = map atomic (read_parts inner n (drop 2 s))
-read_body inner Orelse s = read_two inner (drop 1 s)
-read_body inner Malformed s = none
+unfoldable pub read_body : (List ℕ → Option Op) → Known Kind → List ℕ → Option Op
+read_body inner (Some (One p)) s = some (plain p)
+read_body inner (Some (Atomic n)) s = map atomic (read_parts inner n (drop 2 s))
+read_body inner (Some Orelse) s = read_two inner (drop 1 s)
+read_body inner None s = none
 
 -- the operation, at most `depth` deep, that s begins with
 unfoldable pub read_op : Limits → ℕ → ℕ → List ℕ → Option Op

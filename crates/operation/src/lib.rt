@@ -11,8 +11,6 @@ ghost use Rattle.std.specs.Prelude.{◌≡◌};
 ghost use Rattle.operation.specs.Limits.{limits};
 ghost use Rattle.operation.specs.Reading.{well_formed};
 
-use size::Size;
-
 // The paper's sizes and limits; specs/Limits.antt has them by the same names. Of cells: how many there are at most, and
 // what each holds at most.
 pub const CELLS: usize = 64;
@@ -29,7 +27,7 @@ pub const AMOUNT: u16 = 10_000;
 pub const PARTS: u8 = 15;
 
 // One of the four plain kinds: a cell, for `Move` the cell from and the cell to, and an amount.
-#[derive(Clone, Copy)]
+#[derive(Clone, Copy, PartialEq, Eq)]
 pub enum Plain {
     Need(u8, u16),
     Put(u8, u16),
@@ -38,13 +36,14 @@ pub enum Plain {
 }
 
 // An operation as it is kept: its length, and its bytes with zeros after them.
-#[derive(Clone, Copy)]
+#[derive(Clone, Copy, PartialEq, Eq)]
 pub struct Packed {
     pub len: u8,
     pub bytes: [u8; BYTES],
 }
 
 // Whether `s` is an operation where there are `width` cells.
+#[tactic(auto, using(crate::proofs::WellFormed::well_formed_laws))]
 pub fn well_formed(s: &[u8], width: usize) -> bool
     ensures { result ≡ well_formed limits width s.now }
 {
@@ -54,8 +53,5 @@ pub fn well_formed(s: &[u8], width: usize) -> bool
     if BYTES < s.len() {
         return false;
     }
-    match size::operation(s, width, DEPTH) {
-        Size::Bytes(n) => n == s.len(),
-        Size::Malformed => false,
-    }
+    size::operation(s, width, DEPTH) == Some(s.len())
 }

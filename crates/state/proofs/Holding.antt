@@ -1,11 +1,11 @@
 -- Laws of places for operations. Assumes nothing.
-use Prim.Native.Nat.{ℕ, ◌≤◌, ◌<◌}
-use mathlib.Core.Bool.{Bool, true, false, ◌&&◌}
+use Prim.Native.Nat.{ℕ}
+use mathlib.Core.Bool.{true}
 use mathlib.Core.List.{List}
-use mathlib.Core.Path.{◌≡◌, ◌∙◌}
+use mathlib.Core.Path.{◌≡◌}
 use lib.Dec.{leb}
 use lib.ListN.{length}
-use borrow.Author.Tests.{le-leb, lt-leb, eq-eqb, ne_eqb, leb-true}
+use borrow.Author.Tests.{le-leb, leb-true}
 use Rattle.basics.specs.Counts.{zeros_from}
 use Rattle.basics.proofs.Choice.{and_both}
 use Rattle.operation.specs.Limits.{Limits}
@@ -16,26 +16,6 @@ use Rattle.operation.proofs.Packing.{len_packed, unpacked_packed, packed_zeros, 
 use Rattle.operation.proofs.WellFormed.{formed, op_of}
 use Rattle.state.specs.Holding.{holds, blank}
 use Rattle.effect.specs.Replaying.{Sound}
-
-module _ (l : Limits) (width : ℕ) (o : Packed) where
-  pub too_long : l.bytes < o.len → false ≡ holds l width o
-  unfolding holds
-  too_long g = simp (lt-leb o.len l.bytes g)
-
-  pub by_bytes :
-      (r : Bool) → o.len ≤ l.bytes → r ≡ well_formed l width (unpacked o) && zeros_from o.bytes o.len →
-      r ≡ holds l width o
-  unfolding holds
-  by_bytes r g e = e ∙ simp (le-leb o.len l.bytes g)
-
-module _ (o : Packed) where
-  pub has_length : (o.len ≡ 0 → ⊥) → false ≡ blank o
-  unfolding blank
-  has_length g = simp (ne_eqb o.len 0 g)
-
-  pub by_zeros : (r : Bool) → o.len ≡ 0 → r ≡ zeros_from o.bytes 0 → r ≡ blank o
-  unfolding blank
-  by_zeros r g e = e ∙ simp (eq-eqb o.len 0 g)
 
 -- a place that holds an operation can be run
 pub held_sound : (l : Limits) (width : ℕ) (o : Packed) → holds l width o ≡ true → Sound l width o

@@ -1,34 +1,14 @@
--- Laws of sizes: which tests decide them, and what they say. Assumes nothing.
-use Prim.Native.Nat.{ℕ, ◌≤◌, ◌<◌}
-use mathlib.Core.Bool.{true, false}
+-- What good sizes say. Assumes nothing.
+use Prim.Native.Nat.{ℕ, ◌≤◌}
+use mathlib.Core.Bool.{true}
 use mathlib.Core.Path.{◌≡◌}
 use lib.Dec.{leb}
-use borrow.Author.Tests.{le-leb, lt-leb, leb-true}
+use borrow.Author.Tests.{le-leb, leb-true}
 use Rattle.basics.proofs.Choice.{and_both}
 use Rattle.operation.specs.Limits.{Limits}
 use Rattle.state.specs.Numbers.{most_machines}
 use Rattle.state.specs.Sizes.{sizes_good}
 
-module _ (l : Limits) (machines width : ℕ) where
-  pub no_machines : machines < 1 → false ≡ sizes_good l machines width
-  unfolding sizes_good
-  no_machines h = simp (lt-leb 1 machines h)
-
-  module _ (a : 1 ≤ machines) where
-    pub many_machines : most_machines < machines → false ≡ sizes_good l machines width
-    unfolding sizes_good
-    many_machines h = simp (le-leb 1 machines a, lt-leb machines most_machines h)
-
-    module _ (b : machines ≤ most_machines) where
-      pub no_cells : width < 1 → false ≡ sizes_good l machines width
-      unfolding sizes_good
-      no_cells h = simp (le-leb 1 machines a, le-leb machines most_machines b, lt-leb 1 width h)
-
-      pub by_cells : 1 ≤ width → leb width l.cells ≡ sizes_good l machines width
-      unfolding sizes_good
-      by_cells c = simp (le-leb 1 machines a, le-leb machines most_machines b, le-leb 1 width c)
-
--- what good sizes say
 pub record Sizes (l : Limits) (machines width : ℕ) : Type 0 where
   pub machines_least : 1 ≤ machines
   pub machines_most : machines ≤ most_machines

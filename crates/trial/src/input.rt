@@ -1,5 +1,7 @@
 // What the programs that run trials take in.
 ghost use Rattle.std.specs.Prelude.{◌≡◌, ◌≢◌, ℕ, ◌<◌, ◌≤◌, length, slice_index, IfOk};
+ghost use Rattle.std.specs.Iterator.{YieldsFirstRef, item_count};
+ghost use Rattle.trial.specs.Split.{lines_of};
 
 use std::io::{self, Read};
 
@@ -25,12 +27,31 @@ pub fn line_end(text: &[u8], at: usize) -> usize
     ensures before { (k : ℕ) → at ≤ k → k < result → slice_index text.now k ≢ 10 }
     ensures found { result < length text.now → slice_index text.now result ≡ 10 }
 {
-    let mut end = at;
-    while end < text.len() {
-        if text[end] == b'\n' {
+    for (end, b) in text.iter().enumerate().skip(at) {
+        if *b == b'\n' {
             return end;
         }
-        end += 1;
     }
-    end
+    text.len()
+}
+
+// The lines of a text that are left, each without its end, the last with or without one.
+#[derive(Drop)]
+pub struct Lines<'a>(pub &'a [u8]);
+
+impl<'a> Iterator for Lines<'a> {
+    type Item = &'a [u8];
+
+    ghost next_gives = { YieldsFirstRef (λ s. lines_of s.0.now) };
+
+    ghost remaining = { item_count (λ s. lines_of s.0.now) };
+
+    fn next(&mut self) -> Option<&'a [u8]> {
+        if self.0.is_empty() {
+            return None;
+        }
+        let (line, rest) = self.0.split_at(line_end(self.0, 0));
+        self.0 = &rest[rest.len().min(1)..];
+        Some(line)
+    }
 }

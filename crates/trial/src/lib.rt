@@ -4,13 +4,13 @@
 mod cells;
 mod hex;
 mod input;
-mod text;
 
-ghost use Rattle.std.specs.Prelude.{◌≤◌, length};
+ghost use Rattle.std.specs.Prelude.{◌≡◌, ◌≤◌, length, IfSome};
 
-use effect::Verdict;
-pub use input::{fill, line_end};
-use text::{put, put_cells};
+use cells::Given;
+use effect::Failure;
+pub use input::{Lines, fill, line_end};
+use lines::put::Pen;
 
 // Room for the longest answer: `succeeds `, and 64 cells of six digits with commas between them.
 pub const ANSWER: usize = 512;
@@ -18,42 +18,44 @@ pub const ANSWER: usize = 512;
 // Room for an operation that is longer than any may be.
 const OPERATION: usize = 512;
 
-// Puts what becomes of the trial in `line` at the start of `out`, and answers how long that is.
+// Puts what becomes of the trial in `line` at the start of `out`, and answers how long that is; what does not fit is left out.
 pub fn answer(line: &[u8], out: &mut [u8]) -> usize
     ensures { result ≤ length out.new }
 {
-    let Some(space) = line.iter().position(|b| *b == b' ') else {
-        return put(b"unreadable", out, 0);
-    };
-    let given = cells::read(&line[..space]);
+    let room = out.len();
+    let mut pen = Pen { buf: out, at: 0 };
     let mut op = [0u8; OPERATION];
-    let spelt = hex::read(&line[space + 1..], &mut op);
-    if !given.ok {
-        return put(b"unreadable", out, 0);
+    match read(line, &mut op) {
+        Some((given, len)) => run(&op[..len], given, &mut pen),
+        None => pen.bytes(b"unreadable"),
     }
-    if !spelt.ok {
-        return put(b"unreadable", out, 0);
-    }
-    let len = spelt.len;
-    run(&op[..len], given, out)
+    pen.at.min(room)
 }
 
-// Runs the operation on the cells and puts what becomes of them.
-fn run(op: &[u8], given: cells::Given, out: &mut [u8]) -> usize
-    requires { given.width ≤ 64 }
-    ensures { result ≤ length out.new }
+// The cells of a trial, and how long its operation is, which is put at the start of `op`.
+fn read(line: &[u8], op: &mut [u8]) -> Option<(Given, usize)>
+    ensures { IfSome result (λ (given, len). len ≤ length op.new) }
 {
-    let width = given.width;
-    let mut cells = given.cells;
+    let space = line.iter().position(|b| *b == b' ')?;
+    let given = cells::read(&line[..space])?;
+    let len = hex::read(&line[space + 1..], op)?;
+    Some((given, len))
+}
+
+// Runs the operation on the cells and puts what becomes of them: the cells have commas between them.
+fn run(op: &[u8], given: Given, pen: &mut Pen)
+    requires { pen.old.at ≡ 0 }
+{
+    let Given { width, mut cells } = given;
     match effect::run(op, width, &mut cells) {
-        Verdict::Malformed => put(b"malformed", out, 0),
-        Verdict::Fails => {
-            let at = put(b"fails ", out, 0);
-            put_cells(cells, width, out, at)
+        Ok(()) => pen.bytes(b"succeeds "),
+        Err(Failure::Fails) => pen.bytes(b"fails "),
+        Err(Failure::Malformed) => return pen.bytes(b"malformed"),
+    }
+    for (i, value) in cells[..width].iter().enumerate() {
+        if i != 0 {
+            pen.byte(b',');
         }
-        Verdict::Succeeds => {
-            let at = put(b"succeeds ", out, 0);
-            put_cells(cells, width, out, at)
-        }
+        pen.number(u64::from(*value));
     }
 }

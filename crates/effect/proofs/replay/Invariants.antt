@@ -1,11 +1,10 @@
-use Prim.Native.Nat.{◌-◌, ◌≤◌}
+use mathlib.Core.List.{map}
 use mathlib.Core.Path.{◌≡◌}
+use lib.ListN.{take}
 use Rattle.operation.specs.Limits.{limits}
-use Rattle.effect.specs.Replaying.{replay, queued}
+use Rattle.operation.specs.Packing.{unpacked}
+use Rattle.effect.specs.Replaying.{replay}
 use Rattle.effect.proofs.replay.Given as goal
 
-abbrev pub invariant-loop-i : goal.invariant-loop-i
-invariant-loop-i l = (l.i ≤ l.n) × (l.cells ≡ replay limits l.width (queued l.i l.queue) l.initial.cells)
-
-abbrev pub decreases-loop-i : goal.decreases-loop-i
-decreases-loop-i l = l.n - l.i
+abbrev pub invariant-loop-o : goal.invariant-loop-o
+invariant-loop-o l = l.cells ≡ replay limits l.width (map unpacked (take l.o-index l.queue)) l.initial.cells

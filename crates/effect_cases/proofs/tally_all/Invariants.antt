@@ -1,9 +1,11 @@
-use Rattle.std.proofs.Common.{length, ◌+◌, ◌-◌, ◌≤◌}
+use Rattle.std.proofs.Common.{length, ◌+◌, ◌≤◌}
+use Rattle.trial.specs.Split.{lines_of}
 use Rattle.effect_cases.proofs.tally_all.Given as goal
 
-abbrev pub invariant-loop-at : goal.invariant-loop-at
-invariant-loop-at g l =
-    (l.at ≤ length l.text + 1) × ((l.agree ≤ l.lines) × (l.lines ≤ l.at))
-
-abbrev pub decreases-loop-at : goal.decreases-loop-at
-decreases-loop-at g l = length l.text + 1 - l.at
+-- there are no more lines than bytes
+abbrev pub invariant-loop-line : goal.invariant-loop-line
+invariant-loop-line g l =
+    (goal.iterator-loop-line g).can_next l.line-iterator ×
+    (goal.iterator-loop-line g).is_finite l.line-iterator ×
+    (l.agree ≤ l.lines) ×
+    (l.lines + length (lines_of l.line-iterator.0.now) ≤ length l.text)

@@ -1,31 +1,15 @@
-use borrow.Author.Rules.{rules}
 use native.Mathlib.Omega.{arith}
+use mathlib.Core.Path.{refl}
 use Rattle.operation.specs.Limits.{limits}
-use mathlib.Core.Path.{◌≡◌, refl}
 use Rattle.hubtext.specs.Keys.{next=}
 use Rattle.hubtext.proofs.WrittenLines.{numbers_none, numbers_next}
 use Rattle.hubtext.proofs.lay.next_lines.Goals as goal
 
-pub loop-i-init : goal.loop-i-init
-loop-i-init c = (search rules, (search rules, (omega arith, (refl, numbers_none limits _ _ next= c.args.next))))
+pub loop-n-init : goal.loop-n-init
+loop-n-init c = (omega arith, numbers_none limits _ next=)
 
-pub loop-i-preserved : goal.loop-i-preserved
-loop-i-preserved c = (
-  search rules,
-  (
-    c.loop-i.invariant.1.0,
-    (
-      omega (arith, c.field-to.ensures.upper_bound),
-      (
-        search rules,
-        numbers_next limits _ _ _ _ _ _ next= c.args.next c.loop-i.i _ (omega arith) (refl) c.loop-i.invariant.1.1.1.1 c.field-to.ensures.puts,
-      ),
-    ),
-  ),
+pub loop-n-preserved : goal.loop-n-preserved
+loop-n-preserved c = (
+  omega (arith, c.field.ensures.upper_bound),
+  numbers_next limits next= c.args.next.now c.loop-n.n-index _ (omega arith) refl c.loop-n.invariant.1 c.field.ensures.lays,
 )
-
-pub returns : goal.returns
-returns c = let e : c.loop-i.i ≡ c.args.n = omega arith in record {
-  upper_bound = omega arith;
-  puts = rw e at c.loop-i.invariant.1.1.1.1;
-}

@@ -1,17 +1,8 @@
-use native.Mathlib.Omega.{arith}
 use Rattle.operation.specs.Limits.{limits}
+use Rattle.hubtext.specs.Writing.{entry_of}
 use Rattle.hubtext.proofs.WrittenLines.{record_line}
 use Rattle.hubtext.proofs.lay.record_line.Goals as goal
 
-pub returns : goal.returns
-returns c = record {
-  upper_bound = omega (
-    arith,
-    c.field-a.ensures.upper_bound,
-    c.index.ensures,
-    c.operation-b.ensures.value,
-    c.byte.ensures.value,
-    c.requires.1,
-  );
-  puts = record_line limits _ _ _ _ _ _ _ _ _ c.field-a.ensures.puts (rw c.index.ensures at c.operation-b.ensures.puts) c.byte.ensures.puts;
-}
+pub returns-clause-lays : goal.returns-clause-lays
+returns-clause-lays c = record_line limits (entry_of c.args.r.now) (rw c.from.ensures at c.field.ensures.lays)
+    (rw c.op.ensures at c.hex.ensures.lays) c.byte.ensures.lays

@@ -1,42 +1,35 @@
 use native.Mathlib.Omega.{arith}
+use lib.ListN.{length}
+use Prim.Native.Nat.{◌<◌}
+use mathlib.Core.Path.{◌∙◌}
 use Rattle.lines.specs.Steps.{FieldSays}
-use Rattle.lines.proofs.Passing.{inner_start, past_end, stops_short, goes_on, goes_wrong, goes_out, out_kept}
+use Rattle.lines.proofs.Passing.{to_end, inner_start, past_end, stops_short, goes_on, goes_wrong, goes_out}
 use Rattle.lines.proofs.Cursor.field.Goals as goal
 
-pub returns-then-s-start : goal.returns-then-s-start
+pub returns-in_err-rest : goal.returns-in_err-rest
 unfolding FieldSays
-returns-then-s-start c = past_end _ _ _ _ c.if-s-start.true
+returns-in_err-rest c = rw c.from_residual.ensures (let over : length c.args.s.now < c.args.self.at = omega (arith, c.in_err-rest.ensures.lookup) in past_end _ _ c.args.f over)
 
-pub loop-at-init : goal.loop-at-init
-loop-at-init c = inner_start _ _ _ _ c.requires (omega arith)
+pub loop-i-init : goal.loop-i-init
+loop-i-init c = inner_start _ _ c.requires
 
-pub returns-then-s-at : goal.returns-then-s-at
+pub returns-in_err-further : goal.returns-in_err-further
 unfolding FieldSays
-returns-then-s-at c = stops_short _ _ _ _ _ _ _ c.loop-at.invariant (omega arith)
-
-pub take_byte-step-requires : goal.take_byte-step-requires
-take_byte-step-requires c = c.loop-at.invariant.kept
-
-pub loop-at-preserved : goal.loop-at-preserved
-loop-at-preserved c =
-    goes_on _ _ _ _ _ _ _ c.loop-at.invariant (omega arith) _ c.take_byte-step.ensures.goes _ _
-    c.in-More.is c.take_byte-step.ensures.kept
+returns-in_err-further c =
+    let e = c.in_ok-rest.ensures.lookup.0.2 ∙ to_end c.args.s.now c.args.self.at in
+    rw c.from_residual-in_err-further.ensures (rw e at (goes_wrong _ _ _ _ c.loop-i.invariant (omega arith) c.in_err-further.ensures.goes))
 
 pub returns-in-Ended : goal.returns-in-Ended
 unfolding FieldSays
-returns-in-Ended c = (
-  goes_out _ _ _ _ _ _ _ c.loop-at.invariant (omega arith) _ c.take_byte-step.ensures.goes _ c.in-Ended.is,
-  (
-    omega (arith, c.loop-at.invariant.from),
-    (
-      omega arith,
-      out_kept _ _ _ _ _ _ _ c.loop-at.invariant (omega arith) _ c.take_byte-step.ensures.goes _ c.in-Ended.is c.take_byte-step.ensures.kept,
-    ),
-  ),
-)
+returns-in-Ended c =
+    let e = c.in_ok-rest.ensures.lookup.0.2 ∙ to_end c.args.s.now c.args.self.at in
+    goes_out _ _ _ _ c.loop-i.invariant (omega arith) _ _ _ _ e c.in-Ended.is c.in_ok-further.ensures.goes c.in_ok-further.ensures.kept
 
-pub returns-in-Wrong : goal.returns-in-Wrong
+pub loop-i-preserved : goal.loop-i-preserved
+loop-i-preserved c = goes_on _ _ _ _ c.loop-i.invariant (omega arith) _ _ c.in-More.is c.in_ok-further.ensures.goes c.in_ok-further.ensures.kept
+
+pub returns : goal.returns
 unfolding FieldSays
-returns-in-Wrong c =
-    goes_wrong _ _ _ _ _ _ _ c.loop-at.invariant (omega arith) _ c.take_byte-step.ensures.goes
-    c.in-Wrong.is
+returns c =
+    let e = c.in_ok-rest.ensures.lookup.0.2 ∙ to_end c.args.s.now c.args.self.at in
+    rw e at (stops_short _ _ _ _ c.loop-i.invariant (omega arith))

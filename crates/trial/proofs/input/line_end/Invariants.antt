@@ -1,9 +1,9 @@
-use Rattle.std.proofs.Common.{ℕ, length, get_or, ◌≡◌, ◌-◌, ◌<◌, ◌≤◌}
+use Rattle.std.proofs.Common.{ℕ, length, get_or, ◌≡◌, ◌+◌, ◌<◌, ◌≤◌}
 use Rattle.trial.proofs.input.line_end.Given as goal
 
+-- no end of line before the place
 abbrev pub invariant-loop-end : goal.invariant-loop-end
 invariant-loop-end l =
-    (l.at ≤ l.end) × ((l.end ≤ length l.text) × ((k : ℕ) → l.at ≤ k → k < l.end → get_or l.text k 0 ≡ 10 → ⊥))
-
-abbrev pub decreases-loop-end : goal.decreases-loop-end
-decreases-loop-end l = length l.text - l.end
+    (goal.iterator-loop-end).can_next l.end-iterator ×
+    (goal.iterator-loop-end).is_finite l.end-iterator ×
+    ((k : ℕ) → l.at ≤ k → k < l.at + length l.yielded → get_or l.text k 0 ≡ 10 → ⊥)

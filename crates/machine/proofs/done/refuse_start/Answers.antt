@@ -1,4 +1,0 @@
-use Rattle.machine.proofs.done.refuse_start.Goals as goal
-
-pub returns : goal.returns
-returns c = rw c.start.ensures

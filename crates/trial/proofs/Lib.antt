@@ -1,0 +1,2 @@
+-- The laws of trials, by subject.
+pub mod Splitting

@@ -1,0 +1,2 @@
+-- What the programs that run trials take in.
+pub mod Split
