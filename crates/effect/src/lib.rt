@@ -16,7 +16,7 @@ ghost use Rattle.effect.specs.declared.Failure.TheVariants.{Fails as OperationFa
 use basics::lay;
 use operation::{CELLS, DEPTH, Packed};
 
-// What the cells hold; those past the number of cells are not used.
+// What the cells hold; those past the number of cells are not used. Memory is fixed, and good shape says that they are 0.
 pub type Cells = [u32; CELLS];
 
 // How many operations a queue has at most.

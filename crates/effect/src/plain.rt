@@ -1,4 +1,4 @@
-// The four plain kinds, on cells that are lent.
+// The four plain kinds, on cells that are lent: each a rule of the paper with a test of its own.
 ghost use Rattle.std.specs.Prelude.{◌≡◌, ◌<◌, is_ok};
 ghost use Rattle.operation.specs.Limits.{limits};
 ghost use Rattle.operation.specs.declared.Plain.TheVariants.{Need, Put, Draw, Move};

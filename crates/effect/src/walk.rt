@@ -1,5 +1,6 @@
 // Running the bytes of an operation: an operation runs its parts, and the parts are run by the operation, while the
-// depth and the parts that are left fall.
+// depth and the parts that are left fall. Each asks that the width is one of cells: a type round that number would be opened in
+// each clause.
 ghost use Rattle.std.specs.Prelude.{◌≡◌, ◌≤◌, is_ok};
 ghost use Rattle.operation.specs.Limits.{limits};
 ghost use Rattle.operation.specs.Reading.{read_op};

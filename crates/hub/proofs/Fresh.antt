@@ -21,7 +21,7 @@ use Rattle.hub.specs.Ring.{most_kept, total, empty_record, no_record}
 use Rattle.hub.specs.Shape.{record_blank, place_good, numbered, ring_good, numbers_good, shaped}
 use Rattle.hub.specs.Starting.{started, zero_hub}
 use Rattle.hub.specs.History.{HasDecided, count_of}
-use Rattle.hub.proofs.InShape.{place_past}
+use Rattle.hub.proofs.GoodShape.{place_past}
 
 -- none is decided
 sum_zeros : (k n : ℕ) → sum_to k (λ m. get_or (replicate n 0) m 0) ≡ 0

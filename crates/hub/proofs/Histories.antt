@@ -26,7 +26,7 @@ use Rattle.hub.specs.History.{Decision, no_decision, count_of, cells_after, entr
 use Rattle.hub.specs.declared.Hub.{Hub}
 use Rattle.hub.specs.declared.Record.{Record}
 use Rattle.hub.proofs.Totals.{total_grows}
-use Rattle.hub.proofs.InShape.{good}
+use Rattle.hub.proofs.GoodShape.{good}
 use Rattle.hub.proofs.KeptRing.{at_new, at_other}
 
 -- one more at the end of a history

@@ -22,7 +22,7 @@ use Rattle.hub.specs.Telling.{Submitted}
 use Rattle.hub.specs.declared.Hub.{Hub}
 use Rattle.hub.specs.declared.Record.{Record}
 use Rattle.hub.proofs.Totals.{total_grows}
-use Rattle.hub.proofs.InShape.{Good, good, is_shaped}
+use Rattle.hub.proofs.GoodShape.{Good, good, is_shaped}
 use Rattle.hub.proofs.Submitting.{is_next}
 use Rattle.hub.proofs.KeptRing.{ring_kept, numbers_kept}
 

@@ -17,7 +17,7 @@ use Rattle.hub.specs.Ring.{most_kept, total, kept_count, record_of, no_record, r
 use Rattle.hub.specs.Shape.{record_good, place_good, numbered, ring_good, numbers_good}
 use Rattle.hub.specs.declared.Record.{Record}
 use Rattle.hub.proofs.Totals.{total_grows}
-use Rattle.hub.proofs.InShape.{place_below}
+use Rattle.hub.proofs.GoodShape.{place_below}
 use Rattle.hub.proofs.Numbering.{step, fewer, alike, follows_so}
 
 -- a new record, and a place other than the new one's

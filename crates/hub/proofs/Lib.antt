@@ -1,7 +1,7 @@
 -- The laws of the hub, by subject; the crates above cite them too.
 pub mod Totals
 pub mod Numbering
-pub mod InShape
+pub mod GoodShape
 pub mod Submitting
 pub mod Fetching
 pub mod Copying

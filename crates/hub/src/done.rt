@@ -8,7 +8,7 @@ ghost use Rattle.hub.specs.Telling.{fresh_told, submit_told};
 
 use crate::{Hub, Record, Submitted, ring};
 use effect::Cells;
-use operation::{BYTES, CELLS, Packed};
+use operation::{CELLS, Packed};
 use state::BadStart;
 
 impl Hub {
@@ -50,10 +50,7 @@ impl Hub {
             records: [Record {
                 machine: 0,
                 number: 0,
-                op: Packed {
-                    len: 0,
-                    bytes: [0; BYTES],
-                },
+                op: Packed::EMPTY,
             }; Hub::KEPT],
         }
     }

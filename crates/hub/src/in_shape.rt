@@ -66,12 +66,11 @@ impl InShape {
             return Err(Refusal::BufferTooShort);
         }
         let r = &h.records[ring::slot(n)];
-        let len = usize::from(r.op.len);
-        lay(&r.op.bytes[..len], buf);
+        lay(r.op.op(), buf);
         Ok(Fetched {
             machine: usize::from(r.machine),
             number: r.number,
-            len,
+            len: usize::from(r.op.len),
         })
     }
 

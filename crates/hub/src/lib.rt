@@ -3,7 +3,7 @@
 #![tactic(auto)]
 
 mod done;
-pub mod in_shape;
+mod in_shape;
 pub mod ring;
 mod shape;
 
@@ -18,7 +18,7 @@ ghost use Rattle.hub.specs.Telling.{fresh_told, submit_told, fetch_told, copy_to
 
 use basics::{Refusal, are_counts};
 use effect::{Cells, cells_of};
-use in_shape::InShape;
+pub use in_shape::InShape;
 use operation::{HELD, Packed};
 use state::BadStart;
 

@@ -40,7 +40,7 @@ use Rattle.hub.specs.Shape.{record_good, record_blank, place_good, ring_good, nu
 use Rattle.hub.specs.History.{Decision, no_decision, count_of}
 use Rattle.hub.specs.declared.Hub.{Hub}
 use Rattle.hub.specs.declared.Record.{Record}
-use Rattle.hub.proofs.InShape.{Good, kept_good, kept_machine, kept_sound, place_past}
+use Rattle.hub.proofs.GoodShape.{Good, kept_good, kept_machine, kept_sound, place_past}
 use Rattle.hubtext.specs.Keys.{cell=, next=}
 use Rattle.hubtext.specs.Values.{Value, number, entry, numbers_of, entries_of, cells_in, nexts_in}
 use Rattle.hubtext.specs.Writing.{entry_of, entries_from, kept_entries, values_of}

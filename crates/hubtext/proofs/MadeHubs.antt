@@ -21,7 +21,7 @@ use Rattle.hub.specs.Ring.{most_kept, total, kept_count, empty_record, no_record
 use Rattle.hub.specs.Shape.{record_good, record_blank, place_good, ring_good, numbered, numbers_good, shaped}
 use Rattle.hub.specs.History.{Decision, no_decision, count_of}
 use Rattle.hub.specs.declared.Record.{Record}
-use Rattle.hub.proofs.InShape.{is_shaped, place_below, place_past}
+use Rattle.hub.proofs.GoodShape.{is_shaped, place_below, place_past}
 use Rattle.hub.proofs.Fresh.{blank_record}
 use Rattle.hubtext.specs.Values.{machines_in, width_in, cells_in, nexts_in}
 use Rattle.hubtext.specs.Reading.{placed, made}

@@ -15,7 +15,7 @@ use Rattle.lines.specs.Texts.{values, wrong_at, text_of, read, Finished}
 use Rattle.lines.proofs.Exact.{Lawful, read_good, good_read, wrong_read}
 use Rattle.hub.specs.Shape.{shaped}
 use Rattle.hub.specs.declared.Hub.{Hub}
-use Rattle.hub.proofs.InShape.{good}
+use Rattle.hub.proofs.GoodShape.{good}
 use Rattle.hubtext.specs.Values.{Value, numbers_of, entries_of}
 use Rattle.hubtext.specs.Writing.{values_of}
 use Rattle.hubtext.specs.Reading.{hub_form, hub_of}

@@ -4,14 +4,14 @@ ghost use Rattle.operation.specs.Limits.{limits};
 ghost use Rattle.lines.specs.Placing.{Puts};
 ghost use Rattle.lines.specs.Pens.{Lays};
 ghost use Rattle.lines.specs.Texts.{text_of};
-ghost use Rattle.hubtext.specs.Keys.{form=, machines=, cells=, cell=, next=};
+ghost use Rattle.hubtext.specs.Keys.{form=, machines=, cells=};
 ghost use Rattle.hubtext.specs.Values.{number, entry};
 ghost use Rattle.hubtext.specs.Writing.{entry_of, entries_from, Short};
 ghost use Rattle.hubtext.specs.Reading.{hub_form};
 ghost use Rattle.hubtext.specs.Saving.{hub_text};
 
-use hub::in_shape::InShape;
-use hub::{Record, Records, ring};
+use basics::Count;
+use hub::{InShape, Record, Records, ring};
 use lines::put::Pen;
 use lines::{COMMA, LF};
 
@@ -24,8 +24,8 @@ pub fn text(h: &InShape, buf: &mut [u8]) -> usize
     let kept = ring::kept(decided);
     let mut pen = Pen { buf, at: 0 };
     head(&mut pen, h.machines, h.width);
-    cell_lines(&mut pen, &h.cells[..h.width]);
-    next_lines(&mut pen, &h.next[..h.machines]);
+    number_lines(&mut pen, b"cell=", &h.cells[..h.width]);
+    number_lines(&mut pen, b"next=", &h.next[..h.machines]);
     record_lines(&mut pen, &h.records, decided - kept, kept);
     pen.at
 }
@@ -41,23 +41,15 @@ fn head(pen: &mut Pen, machines: usize, width: usize)
     pen.field(b"cells=", width as u64, LF);
 }
 
-fn cell_lines(pen: &mut Pen, cells: &[u32])
-    requires { (pen.old.at ≤ 100) × (length cells.now ≤ limits.cells) }
-    ensures upper_bound { pen.new.at ≤ 10_000 }
-    ensures lays { Lays pen.old pen.new (text_of (hub_form limits) (map (number cell=) cells.now)) }
+// A line for each number, all with the same key.
+fn number_lines<T: Count>(pen: &mut Pen, key: &[u8], numbers: &[T])
+    requires key { length key.now ≤ 9 }
+    requires room { pen.old.at + 30 * length numbers.now ≤ 20_000 }
+    ensures upper_bound { pen.new.at ≤ pen.old.at + 30 * length numbers.now }
+    ensures lays { Lays pen.old pen.new (text_of (hub_form limits) (map (number key.now) (map T.value numbers.now))) }
 {
-    for n in cells {
-        pen.field(b"cell=", u64::from(*n), LF);
-    }
-}
-
-fn next_lines(pen: &mut Pen, next: &[u64])
-    requires { (pen.old.at ≤ 10_000) × (length next.now ≤ 40) }
-    ensures upper_bound { pen.new.at ≤ 20_000 }
-    ensures lays { Lays pen.old pen.new (text_of (hub_form limits) (map (number next=) next.now)) }
-{
-    for n in next {
-        pen.field(b"next=", *n, LF);
+    for n in numbers {
+        pen.field(key, n.wide(), LF);
     }
 }
 

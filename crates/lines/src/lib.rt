@@ -90,7 +90,7 @@ impl Field<'_> {
     }
 }
 
-// A place in a text.
+// A place in a text, handed on by value.
 #[derive(Clone, Copy)]
 pub struct Cursor {
     pub at: usize,

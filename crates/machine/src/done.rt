@@ -15,12 +15,7 @@ ghost use Rattle.machine.specs.Copying.{copied};
 
 use crate::{Heard, Machine};
 use effect::{Cells, Queue};
-use operation::{BYTES, Packed};
-
-const EMPTY: Packed = Packed {
-    len: 0,
-    bytes: [0; BYTES],
-};
+use operation::Packed;
 
 impl Machine {
     // The guess changes, and the operation joins the queue under the next number.
@@ -105,7 +100,7 @@ fn advance(queue: &Queue, n: usize) -> Queue
     requires { n ≤ most_queued }
     ensures { result ≡ advanced limits n queue.now }
 {
-    let mut next = [EMPTY; Machine::QUEUE];
+    let mut next = [Packed::EMPTY; Machine::QUEUE];
     next[..Machine::QUEUE - n].copy_from_slice(&queue[n..]);
     next
 }
@@ -122,7 +117,7 @@ pub fn start(machines: usize, width: usize, me: usize, cells: Cells) -> Machine
         position: 0,
         guess: cells,
         waiting: 0,
-        queue: [EMPTY; Machine::QUEUE],
+        queue: [Packed::EMPTY; Machine::QUEUE],
         issued: 0,
         done: 0,
         kept: 0,

@@ -1,4 +1,6 @@
-// A machine that is known to be in shape, and the five calls on it: they need no test of it, and leave it in shape.
+// A machine that is known to be in shape, and the five calls on it: they need no test of it, and leave it in shape. The hub has
+// such a type of its own, since methods stand in the crate of their type. That an operation is well formed stays a clause: a
+// type of judged bytes would have a width too, and then a clause that it is the machine's.
 ghost use Rattle.std.specs.Prelude.{◌≡◌, true, length, ◌<◌};
 ghost use Rattle.operation.specs.Limits.{limits};
 ghost use Rattle.operation.specs.Reading.{well_formed};
@@ -66,11 +68,10 @@ impl InShape {
             return Err(Refusal::BufferTooShort);
         }
         let o = &self.machine.queue[j];
-        let len = usize::from(o.len);
-        lay(&o.bytes[..len], buf);
+        lay(o.op(), buf);
         Ok(Sale {
             number: self.machine.done + j as u64,
-            len,
+            len: usize::from(o.len),
         })
     }
 

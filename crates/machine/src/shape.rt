@@ -43,6 +43,7 @@ fn places(queue: &[Packed], waiting: usize, width: usize) -> bool
         .all(|(i, o)| place(o, i, waiting, width))
 }
 
+// A place of the queue. The hub's ring has such a test of records: one for both would be lent two tests, and be no shorter.
 #[tactic(auto, unfolding(crate::specs::Shape::place_good))]
 fn place(o: &Packed, i: usize, waiting: usize, width: usize) -> bool
     ensures { result ≡ place_good limits width waiting i o.now }

@@ -18,6 +18,7 @@ pub enum Kind {
 pub fn read(s: &[u8], width: usize) -> Option<Kind>
     ensures { result ≡ kind_of limits width s.now }
 {
+    // An arm for each code byte, as the paper has a line for each.
     match *s.first()? {
         0x01 => {
             let (cell, amount) = read_fields(s, width, 1)?;

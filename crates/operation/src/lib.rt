@@ -35,14 +35,16 @@ pub enum Plain {
     Move(u8, u8, u16),
 }
 
-// An operation as it is kept: its length, and its bytes with zeros after them.
+// An operation as it is kept: its length, and its bytes with zeros after them. Memory is fixed, and good shape speaks of the
+// places past the length, so this is no `Vec`.
 #[derive(Clone, Copy, PartialEq, Eq)]
 pub struct Packed {
     pub len: u8,
     pub bytes: [u8; BYTES],
 }
 
-// Whether `s` is an operation where there are `width` cells.
+// Whether `s` is an operation where there are `width` cells. Bytes and width stay two parameters wherever they go together:
+// the width is a state's own, and a clause would take a struct of the two apart.
 #[tactic(auto, using(crate::proofs::WellFormed::well_formed_laws))]
 pub fn well_formed(s: &[u8], width: usize) -> bool
     ensures { result ≡ well_formed limits width s.now }

@@ -10,6 +10,7 @@ pub fn fill(input: &mut impl Read, buf: &mut [u8]) -> io::Result<usize>
     ensures { IfOk result (λ n. n ≤ length buf.new) }
 {
     let mut done = 0;
+    // No range to go over: a read takes as many bytes as come.
     while done < buf.len() {
         let n = input.read(&mut buf[done..])?;
         if n == 0 {

@@ -1,6 +1,6 @@
 use Rattle.std.proofs.Common.{arith}
 use Rattle.operation.specs.Limits.{limits}
-use Rattle.hub.proofs.InShape.{good}
+use Rattle.hub.proofs.GoodShape.{good}
 use Rattle.hub.proofs.in_shape.InShape.copy.Goals as goal
 
 pub shared_ref_as_front-lay : goal.shared_ref_as_front-lay

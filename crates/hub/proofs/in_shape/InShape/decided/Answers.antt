@@ -1,5 +1,5 @@
 use Rattle.operation.specs.Limits.{limits}
-use Rattle.hub.proofs.InShape.{good}
+use Rattle.hub.proofs.GoodShape.{good}
 use Rattle.hub.proofs.in_shape.InShape.decided.Goals as goal
 
 pub total-requires : goal.total-requires

@@ -1,7 +1,7 @@
 use Rattle.std.proofs.Common.{rules, arith}
 use Rattle.operation.specs.Limits.{limits}
 use Rattle.operation.proofs.WellFormed.{formed, op_of}
-use Rattle.hub.proofs.InShape.{good}
+use Rattle.hub.proofs.GoodShape.{good}
 use Rattle.hub.proofs.Keeping.{Sized, submit_known_leaves}
 use Rattle.hub.proofs.in_shape.InShape.submit.Goals as goal
 

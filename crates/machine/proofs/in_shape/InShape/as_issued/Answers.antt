@@ -24,5 +24,5 @@ unfolding as_issued
 returns-then-number-self c =
     let m = c.args.self.now.machine in
     let same : c.eq.result ≡ same_bytes (unpacked (get_or m.queue 0 nothing)) c.args.op.now =
-    c.eq.ensures ∙ (same_slices c.op.result.now c.args.op.now ∙ ap (λ s. same_bytes s c.args.op.now) c.op.ensures) in
+    c.eq.ensures ∙ (same_slices c.op.result.now c.args.op.now ∙ ap (λ s. same_bytes s c.args.op.now) c.op.ensures.value) in
     search rules
