@@ -1,5 +1,5 @@
 -- No two answers share a number. Assumes nothing.
-use Rattle.std.proofs.Common.{◌≡◌, refl, sym, ap, ◌∙◌, ◌-◌, ◌≢◌, get_or, arith}
+use Rattle.std.proofs.Common.{◌≡◌, refl, sym, ap, ◌∙◌, ◌-◌, ◌≢◌, get_or, arith, Result, Ok, Err}
 use Rattle.basics.specs.declared.Refusal.{Refusal}
 use Rattle.basics.specs.declared.Refusal.TheVariants.{
   OutOfShape,
@@ -20,7 +20,7 @@ use Rattle.basics.specs.declared.Refusal.TheVariants.{
   BadText,
   BadStart,
 }
-use Rattle.basics.specs.Refusals.{number_of, in_order}
+use Rattle.basics.specs.Refusals.{number_of, answer_number, in_order}
 
 -- a refusal stands where its number says
 pub in_place : (r : Refusal) → get_or in_order (number_of r - 1) OutOfShape ≡ r
@@ -64,3 +64,12 @@ not_done NotDecided e = omega arith
 not_done NotKept e = omega arith
 not_done BadText e = omega arith
 not_done BadStart e = omega arith
+
+-- answers with one number are one answer, where what they have is one when both are done
+pub same_answer :
+    {A : Type 0} (r q : Result A Refusal) → answer_number r ≡ answer_number q →
+    ((x y : A) → r ≡ Ok x → q ≡ Ok y → x ≡ y) → r ≡ q
+same_answer (Ok x) (Ok y) e f = ap Ok (f x y refl refl)
+same_answer (Ok x) (Err s) e f = absurd (not_done s (sym e))
+same_answer (Err r) (Ok y) e f = absurd (not_done r e)
+same_answer (Err r) (Err s) e f = ap Err (one_number r s e)

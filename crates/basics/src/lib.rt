@@ -61,7 +61,7 @@ pub fn lay<T: Copy>(from: &[T], buf: &mut [T])
     buf[..from.len()].copy_from_slice(from);
 }
 
-// A number, in however many bits.
+// A number, in however many bits. `Into<u64>` says what it gives by a relation, and counts are an equation of numbers.
 pub trait Count: Copy {
     ghost value: { Self → ℕ };
 
@@ -81,7 +81,7 @@ impl Count for u32 {
     ghost value = { λ x. x };
 
     fn wide(self) -> u64 {
-        u64::from(self)
+        self.into()
     }
 }
 

@@ -2,7 +2,7 @@
 use Rattle.std.specs.Prelude.{ℕ, ◌≡◌, refl, List, [], ◌∷◌}
 use Rattle.std.proofs.Math.Option.{bind, or_else}
 use Rattle.operation.specs.Limits.{limits}
-use Rattle.operation.specs.FirstBytes.{fields_at, move_from, move_of, atomic_of, kind_of}
+use Rattle.operation.specs.FirstBytes.{fields_at, move_of, atomic_of, kind_of}
 use Rattle.operation.specs.Tree.{op_size}
 use Rattle.operation.specs.Reading.{read_parts, read_two, read_body, read_op, operation_of}
 use Rattle.effect.specs.Running.{step, run}
@@ -31,7 +31,7 @@ pub record Fourteen : Type 0 where
   pub depth_5 : on cells (0x10 ∷ 1 ∷ 0x10 ∷ 1 ∷ 0x10 ∷ 1 ∷ 0x10 ∷ 1 ∷ 0x10 ∷ 0 ∷ []) ≡ told malformed cells
 
 pub fourteen : Fourteen
-unfolding fields_at move_from move_of atomic_of kind_of op_size read_parts read_two read_body read_op operation_of step run tells bind or_else
+unfolding fields_at move_of atomic_of kind_of op_size read_parts read_two read_body read_op operation_of step run tells bind or_else
 fourteen = record {
   need_5 = refl;
   need_6 = refl;

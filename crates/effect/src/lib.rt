@@ -22,7 +22,7 @@ pub type Cells = [u32; CELLS];
 // How many operations a queue has at most.
 pub const QUEUE: usize = 16;
 
-// Operations that wait, the oldest first.
+// Operations that wait, the oldest first: fixed memory, as the cells.
 pub type Queue = [Packed; QUEUE];
 
 // The counts `first`, and zeros after them.
@@ -67,7 +67,8 @@ pub fn run(s: &[u8], width: usize, cells: &mut Cells) -> Result<(), Failure>
     Ok(())
 }
 
-// The same of an operation that is known to be well formed.
+// The same of an operation that is known to be well formed. That stays a clause: a type of judged bytes would have a width of its
+// own to compare.
 #[tactic(auto, using(crate::proofs::Outcomes::cells_there))]
 pub fn run_known(s: &[u8], width: usize, cells: &mut Cells) -> Result<(), Fails>
     requires { well_formed limits width s.now ≡ true }

@@ -35,11 +35,11 @@ fn atomic(s: &[u8], n: u8, width: usize, depth: usize, cells: &mut Cells) -> Res
     ensures { RunsAtomic limits (read_op limits width depth) n s.now cells.old (did (is_ok result) cells.new) }
 {
     let before = *cells;
-    if parts(s, n, width, depth, cells).is_ok() {
-        return Ok(());
+    let ran = parts(s, n, width, depth, cells);
+    if ran.is_err() {
+        *cells = before;
     }
-    *cells = before;
-    Err(Fails)
+    ran
 }
 
 // Runs the `n` operations that `s` begins with one after another, up to the first that fails: the cells are then as

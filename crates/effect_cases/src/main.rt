@@ -6,23 +6,28 @@ use std::rt::Files;
 use std::{fs, io};
 use trial::Lines;
 
-// One byte of the buffer is left over, so that a longer file is not taken for its first part.
+// Memory is fixed: no heap. One byte of the buffer is left over, so that a longer file is not taken for its first part.
 const MOST: usize = 65_535;
+
+// What stands before the arrow of a line and what behind it; none where the line has no arrow.
+fn halves(line: &[u8]) -> Option<(&[u8], &[u8])> {
+    let at = line.iter().position(|b| *b == b'>')?;
+    if at < 3 {
+        return None;
+    }
+    if line.len() < at + 2 {
+        return None;
+    }
+    Some((&line[..at - 2], &line[at + 2..]))
+}
 
 // Whether the code gives for a line what stands behind its arrow; a line with no arrow does not agree.
 fn agrees(line: &[u8]) -> bool {
-    let Some(at) = line.iter().position(|b| *b == b'>') else {
-        return false;
-    };
-    if at < 3 {
-        return false;
-    }
-    if line.len() < at + 2 {
-        return false;
-    }
-    let mut out = [0u8; trial::ANSWER];
-    let n = trial::answer(&line[..at - 2], &mut out);
-    &out[..n] == &line[at + 2..]
+    halves(line).is_some_and(|(given, wanted)| {
+        let mut out = [0u8; trial::ANSWER];
+        let n = trial::answer(given, &mut out);
+        &out[..n] == wanted
+    })
 }
 
 // Whether a line agrees; one that does not is written.

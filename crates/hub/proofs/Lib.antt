@@ -9,3 +9,4 @@ pub mod KeptRing
 pub mod Keeping
 pub mod Fresh
 pub mod Histories
+pub mod Unique

@@ -5,7 +5,7 @@ use Rattle.basics.specs.Refusals.{number_of}
 use Rattle.basics.specs.declared.Refusal.{Refusal}
 use Rattle.basics.specs.declared.Refusal.TheVariants.{BadStart}
 use Rattle.effect.specs.Running.{bit}
-use Rattle.state.specs.declared.start.BadStart.{BadStart as RefusedStart}
+use Rattle.state.specs.declared.start.RefusedStart.{RefusedStart}
 use Rattle.hub.specs.declared.Hub.{Hub}
 use Rattle.hub.specs.declared.Submitted.{Submitted as SubmittedOne}
 use Rattle.hub.specs.declared.Fetched.{Fetched as FetchedOne}

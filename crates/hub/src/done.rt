@@ -2,14 +2,13 @@
 ghost use Rattle.std.specs.Prelude.{◌≡◌};
 ghost use Rattle.operation.specs.Limits.{limits};
 ghost use Rattle.effect.specs.Running.{did};
-ghost use Rattle.hub.specs.Starting.{started, bad_start};
+ghost use Rattle.hub.specs.Starting.{started};
 ghost use Rattle.hub.specs.Submitting.{taken, Takes};
-ghost use Rattle.hub.specs.Telling.{fresh_told, submit_told};
+ghost use Rattle.hub.specs.Telling.{submit_told};
 
 use crate::{Hub, Record, Submitted, ring};
 use effect::Cells;
-use operation::{CELLS, Packed};
-use state::BadStart;
+use operation::Packed;
 
 impl Hub {
     // An operation has been run on the cells: next grows, and it becomes the newest record, in the place of the oldest where
@@ -27,6 +26,7 @@ impl Hub {
     {
         let decided = ring::total(&self.next, self.machines);
         self.records[ring::slot(decided)] = Record {
+            // std has no `From` here: the check proves that nothing is lost.
             machine: machine as u8,
             number,
             op: Packed::of(op),
@@ -52,14 +52,6 @@ impl Hub {
                 number: 0,
                 op: Packed::EMPTY,
             }; Hub::KEPT],
-        }
-    }
-
-    pub(crate) fn refuse_start() -> BadStart<Hub>
-        ensures { fresh_told (Err result) ≡ bad_start limits }
-    {
-        BadStart {
-            zero: Hub::start(0, 0, [0; CELLS]),
         }
     }
 }

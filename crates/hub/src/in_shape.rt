@@ -1,9 +1,16 @@
-// A hub that is known to be in shape: its calls test only what is left.
+// A hub that is known to be in shape, and the three calls on it: they need no test of it, and leave it in shape. The machine has
+// such a type of its own, since methods stand in the crate of their type. That an operation is well formed stays a clause: a
+// type of judged bytes would have a width too, and then a clause that it is the hub's.
 ghost use Rattle.std.specs.Prelude.{◌≡◌, true, length, ◌≤◌, ◌<◌};
 ghost use Rattle.operation.specs.Limits.{limits};
 ghost use Rattle.operation.specs.Reading.{well_formed};
 ghost use Rattle.state.specs.Numbers.{most_issued, most_decided};
 ghost use Rattle.hub.specs.Shape.{shaped};
+ghost use Rattle.hub.specs.Ring.{decided};
+ghost use Rattle.hub.specs.Telling.{submit_told, fetch_told, copy_told};
+ghost use Rattle.hub.specs.Submitting.{submit_known};
+ghost use Rattle.hub.specs.Fetching.{fetch_known, fetched_known};
+ghost use Rattle.hub.specs.Copying.{copy_known, copied_known};
 
 use crate::{Copied, Fetched, Hub, Submitted, ring};
 use basics::{Refusal, lay};
@@ -16,12 +23,6 @@ pub struct InShape {
 }
 
 impl InShape {
-    ghost use Rattle.hub.specs.Ring.{decided};
-    ghost use Rattle.hub.specs.Submitting.{submit_known};
-    ghost use Rattle.hub.specs.Fetching.{fetch_known, fetched_known};
-    ghost use Rattle.hub.specs.Copying.{copy_known, copied_known};
-    ghost use Rattle.hub.specs.Telling.{submit_told, fetch_told, copy_told};
-
     // How many operations are decided.
     pub fn decided(&self) -> u64
         ensures { (result ≡ decided self.now.hub) × (result ≤ most_decided) }
@@ -44,8 +45,8 @@ impl InShape {
         if next < number {
             return Err(Refusal::Early);
         }
-        let ran = effect::run_known(op, self.hub.width, &mut self.hub.cells).is_ok();
-        Ok(self.hub.take(machine, number, op, ran))
+        let succeeded = effect::run_known(op, self.hub.width, &mut self.hub.cells).is_ok();
+        Ok(self.hub.take(machine, number, op, succeeded))
     }
 
     // Fetch record `n`.
@@ -54,18 +55,18 @@ impl InShape {
         ensures value { fetch_told result ≡ fetch_known limits self.now.hub n (length buf.old) }
         ensures buf_after { buf.new ≡ fetched_known limits self.now.hub n buf.old }
     {
-        let h = &self.hub;
         let decided = self.decided();
         if decided <= n {
             return Err(Refusal::NotDecided);
         }
+        // std has no `From` here: the check proves that nothing is lost.
         if (Hub::KEPT as u64) < decided - n {
             return Err(Refusal::NotKept);
         }
         if buf.len() < BYTES {
             return Err(Refusal::BufferTooShort);
         }
-        let r = &h.records[ring::slot(n)];
+        let r = &self.hub.records[ring::slot(n)];
         lay(r.op.op(), buf);
         Ok(Fetched {
             machine: usize::from(r.machine),
@@ -80,17 +81,16 @@ impl InShape {
         ensures value { copy_told result ≡ copy_known limits self.now.hub machine (length buf.old) }
         ensures buf_after { buf.new ≡ copied_known limits self.now.hub machine buf.old }
     {
-        let h = &self.hub;
-        if h.machines <= machine {
+        if self.hub.machines <= machine {
             return Err(Refusal::OutOfRange);
         }
         if buf.len() < Hub::CELLS {
             return Err(Refusal::BufferTooShort);
         }
-        lay(&h.cells[..h.width], buf);
+        lay(&self.hub.cells[..self.hub.width], buf);
         Ok(Copied {
             position: self.decided(),
-            decided: h.next[machine],
+            decided: self.hub.next[machine],
         })
     }
 }

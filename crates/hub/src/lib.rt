@@ -1,5 +1,5 @@
-// The hub: its state, and submit, fetch and copy. Each call tests the state's shape and its arguments, in the paper's order
-// of refusals; a hub that is known to be in shape has a type of its own, with the same calls.
+// The hub: its state and its three calls. Each call tests the state's shape and its arguments, in the paper's order of
+// refusals, and then calls the same of `InShape`, a hub that is known to be in shape.
 #![tactic(auto)]
 
 mod done;
@@ -10,17 +10,17 @@ mod shape;
 ghost use Rattle.std.specs.Prelude.{◌≡◌, length, is_ok, IfOk, IfErr};
 ghost use Rattle.operation.specs.Limits.{limits};
 ghost use Rattle.hub.specs.Shape.{shaped};
+ghost use Rattle.hub.specs.Telling.{fresh_told, submit_told, fetch_told, copy_told};
 ghost use Rattle.hub.specs.Starting.{fresh_of};
 ghost use Rattle.hub.specs.Submitting.{submit_of};
 ghost use Rattle.hub.specs.Fetching.{fetch_of, fetched_into};
 ghost use Rattle.hub.specs.Copying.{copy_of, copied_into};
-ghost use Rattle.hub.specs.Telling.{fresh_told, submit_told, fetch_told, copy_told};
 
 use basics::{Refusal, are_counts};
 use effect::{Cells, cells_of};
 pub use in_shape::InShape;
-use operation::{HELD, Packed};
-use state::BadStart;
+use operation::{CELLS, HELD, Packed};
+use state::RefusedStart;
 
 // A decided operation: whose it was, its number there, and the operation.
 #[derive(Clone, Copy, PartialEq, Eq)]
@@ -41,6 +41,7 @@ pub struct Hub {
     pub records: Records,
 }
 
+// Fixed memory: places past the machines, or past what is decided, are 0 in a hub in shape.
 pub type Next = [u64; state::MACHINES];
 
 pub type Records = [Record; KEPT];
@@ -80,13 +81,16 @@ impl Hub {
 
     // A fresh hub: the first counts are its cells, and all else is 0.
     #[tactic(auto, unfolding(crate::specs::Starting::fresh_of, state::specs::Sizes::sizes_good))]
-    pub fn fresh(machines: usize, first: &[u32]) -> Result<Hub, BadStart<Hub>>
+    pub fn fresh(machines: usize, first: &[u32]) -> Result<Hub, RefusedStart<Hub>>
         ensures { fresh_told result ≡ fresh_of limits machines first.now }
     {
-        if !state::sizes(machines, first.len()) || !are_counts(first, first.len(), HELD) {
-            return Err(Hub::refuse_start());
+        if state::sizes(machines, first.len()) && are_counts(first, first.len(), HELD) {
+            Ok(Hub::start(machines, first.len(), cells_of(first)))
+        } else {
+            Err(RefusedStart {
+                zero: Hub::start(0, 0, [0; CELLS]),
+            })
         }
-        Ok(Hub::start(machines, first.len(), cells_of(first)))
     }
 
     // Submit operation `number` of a machine: taken exactly when that is the machine's next.
@@ -94,15 +98,15 @@ impl Hub {
     pub fn submit(&mut self, machine: usize, number: u64, op: &[u8]) -> Result<Submitted, Refusal>
         ensures { submit_told result self.new ≡ submit_of limits self.old machine number op.now }
     {
-        let mut h = self.in_shape()?;
+        let mut known = self.in_shape()?;
         if self.machines <= machine || Hub::ISSUED <= number {
             return Err(Refusal::OutOfRange);
         }
         if !operation::well_formed(op, self.width) {
             return Err(Refusal::Malformed);
         }
-        let answer = h.submit(machine, number, op);
-        *self = h.hub;
+        let answer = known.submit(machine, number, op);
+        *self = known.hub;
         answer
     }
 
@@ -125,7 +129,7 @@ impl Hub {
         self.in_shape()?.copy(machine, buf)
     }
 
-    // The hub as one that is known to be in shape.
+    // The hub, known to be in shape; refused where it is not.
     pub fn in_shape(&self) -> Result<InShape, Refusal>
         ensures tested { is_ok result ≡ shaped limits self.now }
         ensures hub { IfOk result (λ known. known.hub ≡ self.now) }
@@ -145,11 +149,7 @@ impl Hub {
     {
         state::sizes(self.machines, self.width)
             && state::cells(&self.cells, self.width)
-            && shape::next(&self.next, self.machines)
-            && {
-                let decided = ring::total(&self.next, self.machines);
-                shape::ring(&self.records, self.machines, self.width, decided)
-                    && shape::numbers(&self.next, &self.records, decided)
-            }
+            && are_counts(&self.next, self.machines, Hub::ISSUED)
+            && self.ring_holds()
     }
 }

@@ -18,6 +18,7 @@ pub fn total(next: &Next, machines: usize) -> u64
 pub fn slot(n: u64) -> usize
     ensures { result ≡ n % most_kept }
 {
+    // std has no `From` here: the check proves that nothing is lost.
     (n % Hub::KEPT as u64) as usize
 }
 
@@ -25,5 +26,6 @@ pub fn slot(n: u64) -> usize
 pub fn kept(decided: u64) -> u64
     ensures { result ≡ kept_count decided }
 {
+    // std has no `From` here: the check proves that nothing is lost.
     decided.min(Hub::KEPT as u64)
 }

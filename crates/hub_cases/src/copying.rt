@@ -30,6 +30,6 @@ fn tried(rt: &impl Print, what: &str, h: &Hub, machine: usize, buf: &mut [u32]) 
     let told = copied.unwrap_or_default();
     report::value(rt, "position", told.position)?;
     report::value(rt, "decided", told.decided)?;
-    report::counts(rt, "buffer", buf, buf.len())?;
+    report::counts(rt, "buffer", buf)?;
     rt.println("")
 }

@@ -1,6 +1,4 @@
 // Fetch a record.
-ghost use Rattle.std.specs.Prelude.{◌≤◌};
-
 use crate::hubs;
 use basics::Refusal;
 use hub::{Fetched, Hub};
@@ -13,10 +11,10 @@ pub fn walk(rt: &impl Print) -> io::Result<()> {
     rt.println("  (14 and 15 cannot both be there)")?;
     refused(rt)?;
     rt.println("Fetch at both edges of what is kept")?;
-    edges(rt, "after 255", 255)?;
-    edges(rt, "after 256", 256)?;
-    edges(rt, "after 257", 257)?;
-    edges(rt, "after 600", 600)
+    for n in [255, 256, 257, 600] {
+        edges(rt, n)?;
+    }
+    Ok(())
 }
 
 fn refused(rt: &impl Print) -> io::Result<()> {
@@ -34,16 +32,14 @@ fn refused(rt: &impl Print) -> io::Result<()> {
 }
 
 // The next record, the newest, the oldest that is kept and the one before it, after `n` decided.
-fn edges(rt: &impl Print, what: &str, n: u64) -> io::Result<()>
-    requires { 1 ≤ n }
-{
+fn edges(rt: &impl Print, n: u64) -> io::Result<()> {
     let h = hubs::after(n);
-    print!(rt; "  {what}, fetch")?;
+    print!(rt; "  after {n}, fetch")?;
     fetched(rt, &h, n)?;
-    fetched(rt, &h, n - 1)?;
+    fetched(rt, &h, n.saturating_sub(1))?;
     fetched(rt, &h, n.saturating_sub(256))?;
-    if 257 <= n {
-        fetched(rt, &h, n - 257)?;
+    if let Some(before) = n.checked_sub(257) {
+        fetched(rt, &h, before)?;
     }
     rt.println("")
 }

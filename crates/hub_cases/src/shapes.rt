@@ -1,9 +1,8 @@
 // Hubs out of shape, in one way each.
 ghost use Rattle.std.specs.Prelude.{◌<◌};
 
-use crate::hubs;
-use basics::Refusal;
-use hub::Hub;
+use crate::hubs::{self, EMPTY_ATOMIC};
+use hub::{Hub, Record};
 use std::io;
 
 pub fn walk(rt: &impl Print) -> io::Result<()> {
@@ -20,18 +19,24 @@ pub fn walk(rt: &impl Print) -> io::Result<()> {
 
 fn sizes(rt: &impl Print) -> io::Result<()> {
     let empty = Hub::fresh(3, &[0, 0]).unwrap_or_else(|bad| bad.zero);
-    let mut h = empty;
-    h.machines = 0;
-    tried(rt, "no machine", h)?;
-    h = empty;
-    h.machines = 41;
-    tried(rt, "41 machines", h)?;
-    h = empty;
-    h.width = 0;
-    tried(rt, "no cell", h)?;
-    h = empty;
-    h.width = 65;
-    tried(rt, "65 cells", h)
+    tried(
+        rt,
+        "no machine",
+        Hub {
+            machines: 0,
+            ..empty
+        },
+    )?;
+    tried(
+        rt,
+        "41 machines",
+        Hub {
+            machines: 41,
+            ..empty
+        },
+    )?;
+    tried(rt, "no cell", Hub { width: 0, ..empty })?;
+    tried(rt, "65 cells", Hub { width: 65, ..empty })
 }
 
 fn counts(rt: &impl Print) -> io::Result<()> {
@@ -48,7 +53,7 @@ fn counts(rt: &impl Print) -> io::Result<()> {
     h.next[0] = 1_000_000_001;
     tried(rt, "a next of 1000000001", h)?;
     h = hubs::fresh();
-    h.next[1] = 18_446_744_073_709_551_615;
+    h.next[1] = u64::MAX;
     h.next[2] = 1;
     tried(rt, "a sum of all next only in 64 bits", h)?;
     h = hubs::after(4);
@@ -73,44 +78,52 @@ fn numbers(rt: &impl Print) -> io::Result<()> {
     tried(
         rt,
         "a number one above its place",
-        changed(h, 0, 0, 1, 4, 0, 2),
+        changed(h, 0, |r| r.number = 1),
     )?;
     tried(
         rt,
         "a number one below its place",
-        changed(h, 3, 0, 0, 4, 0, 2),
+        changed(h, 3, |r| r.number = 0),
     )?;
     tried(rt, "two records of a machine changed about", swapped(h))?;
     tried(
         rt,
         "a record of another machine",
-        changed(h, 3, 1, 1, 4, 0, 2),
+        changed(h, 3, |r| r.machine = 1),
     )?;
     tried(
         rt,
         "a record of a machine not below machines",
-        changed(h, 3, 3, 1, 4, 0, 2),
+        changed(h, 3, |r| r.machine = 3),
     )?;
     tried(
         rt,
         "a record of machine 255",
-        changed(h, 3, 255, 1, 4, 0, 2),
+        changed(h, 3, |r| r.machine = 255),
     )
 }
 
 fn operations(rt: &impl Print) -> io::Result<()> {
     let h = hubs::after(4);
-    tried(rt, "a malformed operation", changed(h, 3, 0, 1, 4, 0, 9))?;
-    tried(rt, "an operation of no byte", changed(h, 3, 0, 1, 0, 0, 2))?;
+    tried(
+        rt,
+        "a malformed operation",
+        changed(h, 3, |r| r.op.bytes[0] = 9),
+    )?;
+    tried(
+        rt,
+        "an operation of no byte",
+        changed(h, 3, |r| r.op.len = 0),
+    )?;
     tried(
         rt,
         "an operation of 49 bytes",
-        changed(h, 3, 0, 1, 49, 0, 2),
+        changed(h, 3, |r| r.op.len = 49),
     )?;
     tried(
         rt,
         "a byte past an operation",
-        changed(h, 3, 0, 1, 4, 47, 1),
+        changed(h, 3, |r| r.op.bytes[47] = 1),
     )
 }
 
@@ -119,34 +132,30 @@ fn past(rt: &impl Print) -> io::Result<()> {
     tried(
         rt,
         "a machine past the kept records",
-        changed(h, 4, 1, 0, 0, 0, 0),
+        changed(h, 4, |r| r.machine = 1),
     )?;
     tried(
         rt,
         "a number past the kept records",
-        changed(h, 4, 0, 1, 0, 0, 0),
+        changed(h, 4, |r| r.number = 1),
     )?;
     tried(
         rt,
         "a length past the kept records",
-        changed(h, 255, 0, 0, 1, 0, 0),
+        changed(h, 255, |r| r.op.len = 1),
     )?;
     tried(
         rt,
         "a byte past the kept records",
-        changed(h, 255, 0, 0, 0, 47, 1),
+        changed(h, 255, |r| r.op.bytes[47] = 1),
     )
 }
 
-// The hub with another machine, number and length in a place of its ring, and another byte.
-fn changed(mut h: Hub, place: usize, machine: u8, number: u64, len: u8, at: usize, byte: u8) -> Hub
-    requires { (place < 256) × (at < 48) }
+// The hub with the record in a place of its ring changed.
+fn changed<F: FnOnce(&mut Record)>(mut h: Hub, place: usize, change: F) -> Hub
+    requires { (place < 256) × F.IsAlwaysCallable change }
 {
-    let r = &mut h.records[place];
-    r.machine = machine;
-    r.number = number;
-    r.op.len = len;
-    r.op.bytes[at] = byte;
+    change(&mut h.records[place]);
     h
 }
 
@@ -160,12 +169,8 @@ fn swapped(mut h: Hub) -> Hub {
 fn tried(rt: &impl Print, what: &str, mut h: Hub) -> io::Result<()> {
     report::case(rt, what)?;
     let before = h;
-    told(rt, "submit", h.submit(1, 1, b"\x10\x00"))?;
-    told(rt, "fetch", before.fetch(3, &mut [0; 48]))?;
-    told(rt, "copy", before.copy(1, &mut [0; 64]))?;
+    report::told(rt, "submit", h.submit(1, 1, EMPTY_ATOMIC))?;
+    report::told(rt, "fetch", before.fetch(3, &mut [0; 48]))?;
+    report::told(rt, "copy", before.copy(1, &mut [0; 64]))?;
     report::state(rt, h == before)
-}
-
-fn told<T: Copy>(rt: &impl Print, call: &str, answer: Result<T, Refusal>) -> io::Result<()> {
-    report::value(rt, call, basics::number(answer))
 }

@@ -1,4 +1,5 @@
 // The fresh hub.
+use crate::hubs::EMPTY_ATOMIC;
 use basics::Refusal;
 use hub::Hub;
 use std::io;
@@ -18,9 +19,9 @@ pub fn walk(rt: &impl Print) -> io::Result<()> {
 fn tried(rt: &impl Print, what: &str, machines: usize, first: &[u32]) -> io::Result<()> {
     report::case(rt, what)?;
     let made = Hub::fresh(machines, first);
-    report::answer(rt, made.map_err(|_| Refusal::BadStart))?;
+    report::answer(rt, made.map_err(Refusal::from))?;
     rt.print(", then submit:")?;
     let mut h = made.unwrap_or_else(|bad| bad.zero);
-    report::answer(rt, h.submit(0, 0, b"\x10\x00"))?;
+    report::answer(rt, h.submit(0, 0, EMPTY_ATOMIC))?;
     rt.println("")
 }

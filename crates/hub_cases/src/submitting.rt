@@ -1,5 +1,5 @@
 // Submit.
-use crate::hubs;
+use crate::hubs::{self, EMPTY_ATOMIC, MALFORMED, MOVE_3, MOVE_6, PUT_1};
 use hub::Hub;
 use std::io;
 
@@ -12,46 +12,40 @@ pub fn walk(rt: &impl Print) -> io::Result<()> {
 
 fn taken(rt: &impl Print) -> io::Result<()> {
     let h = hubs::after(4);
-    tried(rt, "done, succeeds", h, 1, 1, b"\x04\x00\x01\x00\x03")?;
-    tried(rt, "done, fails", h, 1, 1, b"\x04\x00\x01\x00\x06")?;
+    tried(rt, "done, succeeds", h, 1, 1, MOVE_3)?;
+    tried(rt, "done, fails", h, 1, 1, MOVE_6)?;
     tried(
         rt,
         "done, the last of a machine",
         hubs::late(999_999_999),
         0,
         999_999_999,
-        b"\x10\x00",
+        EMPTY_ATOMIC,
     )
 }
 
 fn refused(rt: &impl Print) -> io::Result<()> {
     let h = hubs::after(4);
-    tried(rt, "1", hubs::out_of_shape(h), 1, 1, b"\x10\x00")?;
-    tried(rt, "1 and 9", hubs::out_of_shape(h), 3, 1, b"\x10\x00")?;
-    tried(rt, "9 by the machine", h, 3, 0, b"\x10\x00")?;
-    tried(rt, "9 by the number", h, 1, 1_000_000_000, b"\x10\x00")?;
-    tried(rt, "9 and 2", h, 3, 0, b"\x05")?;
-    tried(rt, "2", h, 1, 1, b"\x05")?;
-    tried(rt, "2 and 10", h, 1, 0, b"\x05")?;
-    tried(rt, "2 and 11", h, 1, 2, b"\x05")?;
-    tried(
-        rt,
-        "10 with the bytes decided",
-        h,
-        1,
-        0,
-        b"\x02\x01\x00\x01",
-    )?;
-    tried(rt, "10 with others", h, 1, 0, b"\x10\x00")?;
+    let bad = hubs::out_of_shape(h);
+    tried(rt, "1", bad, 1, 1, EMPTY_ATOMIC)?;
+    tried(rt, "1 and 9", bad, 3, 1, EMPTY_ATOMIC)?;
+    tried(rt, "9 by the machine", h, 3, 0, EMPTY_ATOMIC)?;
+    tried(rt, "9 by the number", h, 1, 1_000_000_000, EMPTY_ATOMIC)?;
+    tried(rt, "9 and 2", h, 3, 0, MALFORMED)?;
+    tried(rt, "2", h, 1, 1, MALFORMED)?;
+    tried(rt, "2 and 10", h, 1, 0, MALFORMED)?;
+    tried(rt, "2 and 11", h, 1, 2, MALFORMED)?;
+    tried(rt, "10 with the bytes decided", h, 1, 0, PUT_1)?;
+    tried(rt, "10 with others", h, 1, 0, EMPTY_ATOMIC)?;
     tried(
         rt,
         "10 at a next of 1000000000",
         hubs::late(1_000_000_000),
         0,
         999_999_999,
-        b"\x10\x00",
+        EMPTY_ATOMIC,
     )?;
-    tried(rt, "11", h, 1, 2, b"\x10\x00")
+    tried(rt, "11", h, 1, 2, EMPTY_ATOMIC)
 }
 
 // The line of one submission.

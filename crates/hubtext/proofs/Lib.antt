@@ -16,3 +16,4 @@ pub mod MadeValues
 pub mod MadeReal
 pub mod HubValues
 pub mod RoundTrips
+pub mod Unique

@@ -19,14 +19,13 @@ use lines::{COMMA, LF};
 pub fn text(h: &InShape, buf: &mut [u8]) -> usize
     ensures { Puts buf.old buf.new 0 result (hub_text limits h.now.hub) }
 {
-    let h = &h.hub;
-    let decided = ring::total(&h.next, h.machines);
+    let decided = h.decided();
     let kept = ring::kept(decided);
     let mut pen = Pen { buf, at: 0 };
-    head(&mut pen, h.machines, h.width);
-    number_lines(&mut pen, b"cell=", &h.cells[..h.width]);
-    number_lines(&mut pen, b"next=", &h.next[..h.machines]);
-    record_lines(&mut pen, &h.records, decided - kept, kept);
+    head(&mut pen, h.hub.machines, h.hub.width);
+    number_lines(&mut pen, b"cell=", &h.hub.cells[..h.hub.width]);
+    number_lines(&mut pen, b"next=", &h.hub.next[..h.hub.machines]);
+    record_lines(&mut pen, &h.hub.records, decided - kept, kept);
     pen.at
 }
 
@@ -34,14 +33,17 @@ pub fn text(h: &InShape, buf: &mut [u8]) -> usize
 fn head(pen: &mut Pen, machines: usize, width: usize)
     requires { pen.old.at ≡ 0 }
     ensures upper_bound { pen.new.at ≤ 100 }
-    ensures lays { Lays pen.old pen.new (text_of (hub_form limits) (number form= 1 ∷ number machines= machines ∷ number cells= width ∷ [])) }
+    ensures lays { let values = number form= 1 ∷ number machines= machines ∷ number cells= width ∷ [] in
+        Lays pen.old pen.new (text_of (hub_form limits) values) }
 {
     pen.field(b"form=", 1, LF);
+    // std has no `From` here: the check proves that nothing is lost.
     pen.field(b"machines=", machines as u64, LF);
     pen.field(b"cells=", width as u64, LF);
 }
 
-// A line for each number, all with the same key.
+// A line for each number, all with the same key. How far the pen may be is said anew in each function, since it grows along the
+// text.
 fn number_lines<T: Count>(pen: &mut Pen, key: &[u8], numbers: &[T])
     requires key { length key.now ≤ 9 }
     requires room { pen.old.at + 30 * length numbers.now ≤ 20_000 }
@@ -58,9 +60,8 @@ fn record_lines(pen: &mut Pen, records: &Records, first: u64, k: u64)
     requires { (pen.old.at ≤ 20_000) × ((k ≤ 256) × ((first ≤ 40_000_000_000) × Short records.now first k)) }
     ensures { Lays pen.old pen.new (text_of (hub_form limits) (map entry (entries_from records.now first k))) }
 {
-    for i in 0..k {
-        let slot = ring::slot(first + i);
-        record_line(pen, &records[slot]);
+    for n in first..first + k {
+        record_line(pen, &records[ring::slot(n)]);
     }
 }
 

@@ -1,4 +1,4 @@
-// The hub's text: written, and read back.
+// The hub's text, written; specs/ and proofs/ have how it is read back.
 #![tactic(auto)]
 
 mod lay;

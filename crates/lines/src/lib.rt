@@ -19,7 +19,8 @@ pub struct Field<'a> {
     pub end: u8,
 }
 
-// How far a field is read: `seen` bytes of its key (and one more from the first digit on), and its number so far.
+// How far a field is read: `seen` bytes of its key (and one more from the first digit on: the definitions `resume` and `Kept` say it
+// by this one number), and its number so far.
 #[derive(Clone, Copy)]
 pub struct Reading {
     pub seen: usize,

@@ -36,7 +36,8 @@ impl Pen<'_> {
         }
     }
 
-    // A number in decimal.
+    // A number in decimal. By hand, as hexadecimals are: the theorems of texts speak of these bytes, and what `write!`
+    // ensures is of a `String`, which wants a heap.
     pub fn number(&mut self, n: u64)
         requires { self.old.at ≤ 900_000_000 }
         ensures upper_bound { self.new.at ≤ self.old.at + 20 }

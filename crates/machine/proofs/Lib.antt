@@ -8,3 +8,4 @@ pub mod KeptStates
 pub mod Known
 pub mod Keeping
 pub mod Guesstimate
+pub mod Unique

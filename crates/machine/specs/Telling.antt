@@ -3,8 +3,8 @@
 use Rattle.std.specs.Prelude.{ℕ, Result, Ok, Err}
 use Rattle.basics.specs.Refusals.{number_of, answer_number}
 use Rattle.basics.specs.declared.Refusal.{Refusal}
-use Rattle.basics.specs.declared.Refusal.TheVariants.{BadStart as NoStart}
-use Rattle.state.specs.declared.start.BadStart.{BadStart}
+use Rattle.basics.specs.declared.Refusal.TheVariants.{BadStart}
+use Rattle.state.specs.declared.start.RefusedStart.{RefusedStart}
 use Rattle.machine.specs.declared.Heard.{Heard}
 use Rattle.machine.specs.declared.Heard.TheVariants.{Lost, Kept, Another}
 use Rattle.machine.specs.declared.Machine.{Machine}
@@ -57,9 +57,9 @@ outcome_of (Ok h) = heard_number h
 outcome_of (Err r) = 0
 
 -- a bad start hands back the machine that it has
-abbrev pub fresh_told : Result Machine (BadStart Machine) → Made
+abbrev pub fresh_told : Result Machine (RefusedStart Machine) → Made
 fresh_told (Ok m) = record { answer = 0; machine = m }
-fresh_told (Err bad) = record { answer = number_of NoStart; machine = bad.zero }
+fresh_told (Err bad) = record { answer = number_of BadStart; machine = bad.zero }
 
 abbrev pub issue_told : Result ℕ Refusal → Machine → Issued
 issue_told r m = record { answer = answer_number r; number = value_of r; machine = m }

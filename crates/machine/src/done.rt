@@ -9,7 +9,7 @@ ghost use Rattle.machine.specs.Telling.{issue_told, note_told, record_told, copy
 ghost use Rattle.machine.specs.Issuing.{sold};
 ghost use Rattle.machine.specs.Noting.{written};
 ghost use Rattle.machine.specs.Starting.{started};
-ghost use Rattle.machine.specs.Queueing.{advanced, Own, Leaving};
+ghost use Rattle.machine.specs.Queueing.{advanced, agreed_on, Own, Leaving};
 ghost use Rattle.machine.specs.Recording.{own_taken, other_taken};
 ghost use Rattle.machine.specs.Copying.{copied};
 
@@ -45,16 +45,16 @@ impl Machine {
 
     // An own record: the front of the queue goes, and kept or lost grows. The guess stays.
     #[tactic(auto, unfolding(crate::specs::Recording::own_taken))]
-    pub(crate) fn take_own(&mut self, agreed: Cells, ok: bool) -> Heard
+    pub(crate) fn take_own(&mut self, agreed: Cells, succeeded: bool) -> Heard
         requires { Own self.old }
-        ensures { record_told (Ok result) self.new ≡ own_taken limits self.old (did ok agreed) }
+        ensures { record_told (Ok result) self.new ≡ own_taken limits self.old (did succeeded agreed) }
     {
         self.agreed = agreed;
         self.position += 1;
         self.queue = advance(&self.queue, 1);
         self.waiting -= 1;
         self.done += 1;
-        if ok {
+        if succeeded {
             self.kept += 1;
             Heard::Kept
         } else {
@@ -69,12 +69,20 @@ impl Machine {
         requires { Ready limits self.old.width self.old.waiting self.old.queue × (self.old.position ≤ most_decided) }
         ensures { record_told (Ok result) self.new ≡ other_taken limits self.old agreed }
     {
-        let mut guess = agreed;
-        effect::replay(&self.queue[..self.waiting], self.width, &mut guess);
-        self.agreed = agreed;
-        self.position += 1;
-        self.guess = guess;
+        self.agree(self.position + 1, agreed);
         Heard::Another
+    }
+
+    // New agreed cells: the guess is the queue, replayed on them.
+    fn agree(&mut self, position: u64, cells: Cells)
+        requires { Ready limits self.old.width self.old.waiting self.old.queue }
+        ensures { self.new ≡ agreed_on limits self.old position cells }
+    {
+        let mut guess = cells;
+        effect::replay(&self.queue[..self.waiting], self.width, &mut guess);
+        self.agreed = cells;
+        self.position = position;
+        self.guess = guess;
     }
 
     // A copy: the `left` oldest leave the queue unheard, and the rest is replayed.
@@ -85,13 +93,32 @@ impl Machine {
     {
         self.queue = advance(&self.queue, left);
         self.waiting -= left;
-        let mut guess = cells;
-        effect::replay(&self.queue[..self.waiting], self.width, &mut guess);
-        self.agreed = cells;
-        self.position = position;
-        self.guess = guess;
+        self.agree(position, cells);
+        // std has no `From` here: the check proves that nothing is lost.
         self.done += left as u64;
         self.unheard += left as u64;
+    }
+
+    // The machine that starts with these cells.
+    pub(crate) fn start(machines: usize, width: usize, me: usize, cells: Cells) -> Machine
+        ensures { result ≡ started limits machines width me cells }
+    {
+        Machine {
+            machines,
+            width,
+            me,
+            agreed: cells,
+            position: 0,
+            guess: cells,
+            waiting: 0,
+            queue: [Packed::EMPTY; Machine::QUEUE],
+            issued: 0,
+            done: 0,
+            kept: 0,
+            lost: 0,
+            unheard: 0,
+            notes: [0; Machine::NOTES],
+        }
     }
 }
 
@@ -103,26 +130,4 @@ fn advance(queue: &Queue, n: usize) -> Queue
     let mut next = [Packed::EMPTY; Machine::QUEUE];
     next[..Machine::QUEUE - n].copy_from_slice(&queue[n..]);
     next
-}
-
-// The machine that starts with these cells.
-pub fn start(machines: usize, width: usize, me: usize, cells: Cells) -> Machine
-    ensures { result ≡ started limits machines width me cells }
-{
-    Machine {
-        machines,
-        width,
-        me,
-        agreed: cells,
-        position: 0,
-        guess: cells,
-        waiting: 0,
-        queue: [Packed::EMPTY; Machine::QUEUE],
-        issued: 0,
-        done: 0,
-        kept: 0,
-        lost: 0,
-        unheard: 0,
-        notes: [0; Machine::NOTES],
-    }
 }

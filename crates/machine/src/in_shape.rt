@@ -70,6 +70,7 @@ impl InShape {
         let o = &self.machine.queue[j];
         lay(o.op(), buf);
         Ok(Sale {
+            // std has no `From` here: the check proves that nothing is lost.
             number: self.machine.done + j as u64,
             len: usize::from(o.len),
         })
@@ -95,14 +96,14 @@ impl InShape {
             return Err(Refusal::Early);
         }
         let mut agreed = self.machine.agreed;
-        let ok = effect::run_known(op, self.machine.width, &mut agreed).is_ok();
+        let succeeded = effect::run_known(op, self.machine.width, &mut agreed).is_ok();
         if who != self.machine.me {
             return Ok(self.machine.take_other(agreed));
         }
         if !self.as_issued(number, op) {
             return Err(Refusal::NotAsIssued);
         }
-        Ok(self.machine.take_own(agreed, ok))
+        Ok(self.machine.take_own(agreed, succeeded))
     }
 
     // Whether `op` is the front of the queue, under its number.
@@ -130,6 +131,7 @@ impl InShape {
         if decided < self.machine.done || self.machine.issued < decided {
             return Err(Refusal::NotAsIssued);
         }
+        // std has no `From` here: the check proves that nothing is lost.
         let left = (decided - self.machine.done) as usize;
         self.machine.copy(position, cells_of(cells), left);
         Ok(left)

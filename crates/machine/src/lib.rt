@@ -22,7 +22,7 @@ use basics::{Refusal, are_counts};
 use effect::{Cells, Queue, cells_of};
 pub use in_shape::InShape;
 use operation::{CELLS, HELD};
-use state::BadStart;
+use state::RefusedStart;
 
 // What a machine holds: how many machines and cells there are and its own number; the agreed counts and how many records
 // it has taken in; its guess, and the sales that wait, the oldest first; how many it has issued and had decided, and how
@@ -48,7 +48,7 @@ pub struct Machine {
 const NOTES: usize = 4;
 
 // A sale that waits: its number, and how many bytes it has.
-#[derive(Clone, Copy, PartialEq, Eq)]
+#[derive(Clone, Copy, Default, PartialEq, Eq)]
 pub struct Sale {
     pub number: u64,
     pub len: usize,
@@ -83,17 +83,21 @@ impl Machine {
 
     // A fresh machine: the first counts are its cells and its guess, and all else is 0.
     #[tactic(auto, unfolding(crate::specs::Starting::fresh_of))]
-    pub fn fresh(machines: usize, me: usize, first: &[u32]) -> Result<Machine, BadStart<Machine>>
+    pub fn fresh(
+        machines: usize,
+        me: usize,
+        first: &[u32],
+    ) -> Result<Machine, RefusedStart<Machine>>
         ensures { fresh_told result ≡ fresh_of limits machines me first.now }
     {
         if state::sizes(machines, first.len())
             && me < machines
             && are_counts(first, first.len(), HELD)
         {
-            Ok(done::start(machines, first.len(), me, cells_of(first)))
+            Ok(Machine::start(machines, first.len(), me, cells_of(first)))
         } else {
-            Err(BadStart {
-                zero: done::start(0, 0, 0, [0; CELLS]),
+            Err(RefusedStart {
+                zero: Machine::start(0, 0, 0, [0; CELLS]),
             })
         }
     }

@@ -19,6 +19,7 @@ impl Machine {
         self.waiting <= Machine::QUEUE
             && self.issued <= Machine::ISSUED
             && self.done <= self.issued
+            // std has no `From` here: the check proves that nothing is lost.
             && self.issued - self.done == self.waiting as u64
             && self.kept <= self.done
             && self.lost <= self.done - self.kept
@@ -27,7 +28,8 @@ impl Machine {
 
     // Each of the first `waiting` places holds an operation, and each later one nothing.
     pub(crate) fn places_hold(&self) -> bool
-        ensures { let m = self.now in result ≡ every most_queued (λ i. place_good limits m.width m.waiting i (get_or m.queue i nothing)) }
+        ensures { let m = self.now in
+            result ≡ every most_queued (λ i. place_good limits m.width m.waiting i (get_or m.queue i nothing)) }
     {
         places(&self.queue, self.waiting, self.width)
     }

@@ -10,11 +10,12 @@ pub fn walk(rt: &impl Print) -> io::Result<()> {
     let cells = [9u32, 1, 999_999];
     let large = [9u32, 1_000_000];
     let m = machines::busy();
+    let bad = machines::out_of_shape(m);
     tried(rt, "done, none left the queue", m, 8, &cells[..2], 3)?;
     tried(rt, "done, one left", m, 8, &cells[..2], 4)?;
     tried(rt, "done, both left", m, 40_000_000_000, &cells[..2], 5)?;
-    tried(rt, "1", machines::out_of_shape(m), 8, &cells[..2], 3)?;
-    tried(rt, "1 and 13", machines::out_of_shape(m), 8, &cells, 3)?;
+    tried(rt, "1", bad, 8, &cells[..2], 3)?;
+    tried(rt, "1 and 13", bad, 8, &cells, 3)?;
     tried(rt, "13 by the position", m, 40_000_000_001, &cells[..2], 3)?;
     tried(rt, "13 by a cell too few", m, 8, &cells[..1], 3)?;
     tried(rt, "13 by a cell too many", m, 8, &cells, 3)?;
@@ -39,13 +40,13 @@ pub fn walk(rt: &impl Print) -> io::Result<()> {
 fn tried(
     rt: &impl Print,
     what: &str,
-    before: Machine,
+    mut m: Machine,
     position: u64,
     cells: &[u32],
     decided: u64,
 ) -> io::Result<()> {
     report::case(rt, what)?;
-    let mut m = before;
+    let before = m;
     let copied = m.take_copy(position, cells, decided);
     report::answer(rt, copied)?;
     report::value(rt, "left", copied.unwrap_or(0))?;

@@ -3,6 +3,21 @@ use basics::Refusal;
 use machine::Machine;
 use std::io;
 
+// An ATOMIC of no part, which succeeds on any cells.
+pub const EMPTY_ATOMIC: &[u8] = b"\x10\x00";
+
+// No operation: none begins with this byte.
+pub const MALFORMED: &[u8] = b"\x05";
+
+// MOVE 3 from cell 0 to cell 1, of the 5 that are there.
+pub const MOVE_3: &[u8] = b"\x04\x00\x01\x00\x03";
+
+// MOVE 6, which fails on them.
+pub const MOVE_6: &[u8] = b"\x04\x00\x01\x00\x06";
+
+// DRAW 1 from cell 0.
+pub const DRAW_1: &[u8] = b"\x03\x00\x00\x01";
+
 // Machine 1 of 3 with the counts 5 and 0, which has sold nothing yet.
 pub fn fresh() -> Machine {
     Machine::fresh(3, 1, &[5, 0]).unwrap_or_else(|bad| bad.zero)
@@ -12,7 +27,7 @@ pub fn fresh() -> Machine {
 pub fn with_waiting(n: u64) -> Machine {
     let mut m = fresh();
     for _ in 0..n {
-        let _ = m.issue(b"\x10\x00");
+        let _ = m.issue(EMPTY_ATOMIC);
     }
     m
 }
@@ -21,7 +36,7 @@ pub fn with_waiting(n: u64) -> Machine {
 pub fn busy() -> Machine {
     let mut m = fresh();
     for _ in 0..2 {
-        let _ = m.issue(b"\x03\x00\x00\x01");
+        let _ = m.issue(DRAW_1);
     }
     Machine {
         issued: 5,
@@ -64,9 +79,9 @@ fn tell(rt: &impl Print, m: &Machine) -> io::Result<()> {
     report::value(rt, "kept", m.kept)?;
     report::value(rt, "lost", m.lost)?;
     report::value(rt, "unheard", m.unheard)?;
-    report::counts(rt, "agreed", &m.agreed, m.width)?;
-    report::counts(rt, "guess", &m.guess, m.width)?;
-    report::counts(rt, "notes", &m.notes, Machine::NOTES)?;
+    report::counts(rt, "agreed", m.agreed.get(..m.width).unwrap_or(&m.agreed))?;
+    report::counts(rt, "guess", m.guess.get(..m.width).unwrap_or(&m.guess))?;
+    report::counts(rt, "notes", &m.notes)?;
     rt.println("")
 }
 

@@ -1,5 +1,5 @@
 // Take a record.
-use crate::machines;
+use crate::machines::{self, DRAW_1, EMPTY_ATOMIC, MALFORMED};
 use machine::{Heard, Machine};
 use std::io;
 
@@ -16,10 +16,10 @@ pub fn walk(rt: &impl Print) -> io::Result<()> {
 // Own records that stand and fall, and another's.
 fn taken(rt: &impl Print) -> io::Result<()> {
     let m = machines::busy();
-    tried(rt, "done, own, kept", m, 7, 1, 3, b"\x03\x00\x00\x01")?;
+    tried(rt, "done, own, kept", m, 7, 1, 3, DRAW_1)?;
     let mut empty = m;
     empty.agreed[0] = 0;
-    tried(rt, "done, own, lost", empty, 7, 1, 3, b"\x03\x00\x00\x01")?;
+    tried(rt, "done, own, lost", empty, 7, 1, 3, DRAW_1)?;
     tried(rt, "done, another's", m, 7, 0, 99, b"\x03\x00\x00\x04")?;
     tried(
         rt,
@@ -41,23 +41,16 @@ fn taken(rt: &impl Print) -> io::Result<()> {
         39_999_999_999,
         0,
         999_999_999,
-        b"\x10\x00",
+        EMPTY_ATOMIC,
     )
 }
 
 fn refused(rt: &impl Print) -> io::Result<()> {
     let m = machines::busy();
-    tried(rt, "1", machines::out_of_shape(m), 7, 0, 0, b"\x10\x00")?;
-    tried(
-        rt,
-        "1 and 9",
-        machines::out_of_shape(m),
-        7,
-        3,
-        0,
-        b"\x10\x00",
-    )?;
-    tried(rt, "9 by the machine", m, 7, 3, 0, b"\x10\x00")?;
+    let bad = machines::out_of_shape(m);
+    tried(rt, "1", bad, 7, 0, 0, EMPTY_ATOMIC)?;
+    tried(rt, "1 and 9", bad, 7, 3, 0, EMPTY_ATOMIC)?;
+    tried(rt, "9 by the machine", m, 7, 3, 0, EMPTY_ATOMIC)?;
     tried(
         rt,
         "9 by the operation number",
@@ -65,7 +58,7 @@ fn refused(rt: &impl Print) -> io::Result<()> {
         7,
         0,
         1_000_000_000,
-        b"\x10\x00",
+        EMPTY_ATOMIC,
     )?;
     tried(
         rt,
@@ -74,16 +67,16 @@ fn refused(rt: &impl Print) -> io::Result<()> {
         40_000_000_000,
         0,
         0,
-        b"\x10\x00",
+        EMPTY_ATOMIC,
     )?;
-    tried(rt, "9 and 2", m, 7, 3, 0, b"\x05")?;
-    tried(rt, "2", m, 7, 0, 0, b"\x05")?;
-    tried(rt, "2 and 10", m, 6, 0, 0, b"\x05")?;
-    tried(rt, "2 and 11", m, 8, 0, 0, b"\x05")?;
-    tried(rt, "10", m, 6, 0, 0, b"\x10\x00")?;
-    tried(rt, "10 and 12", m, 6, 1, 2, b"\x10\x00")?;
-    tried(rt, "11", m, 8, 0, 0, b"\x10\x00")?;
-    tried(rt, "11 and 12", m, 8, 1, 4, b"\x10\x00")
+    tried(rt, "9 and 2", m, 7, 3, 0, MALFORMED)?;
+    tried(rt, "2", m, 7, 0, 0, MALFORMED)?;
+    tried(rt, "2 and 10", m, 6, 0, 0, MALFORMED)?;
+    tried(rt, "2 and 11", m, 8, 0, 0, MALFORMED)?;
+    tried(rt, "10", m, 6, 0, 0, EMPTY_ATOMIC)?;
+    tried(rt, "10 and 12", m, 6, 1, 2, EMPTY_ATOMIC)?;
+    tried(rt, "11", m, 8, 0, 0, EMPTY_ATOMIC)?;
+    tried(rt, "11 and 12", m, 8, 1, 4, EMPTY_ATOMIC)
 }
 
 fn not_as_issued(rt: &impl Print) -> io::Result<()> {
@@ -95,42 +88,26 @@ fn not_as_issued(rt: &impl Print) -> io::Result<()> {
         0,
         1,
         0,
-        b"\x10\x00",
+        EMPTY_ATOMIC,
     )?;
-    tried(
-        rt,
-        "12 by the number, one less",
-        m,
-        7,
-        1,
-        2,
-        b"\x03\x00\x00\x01",
-    )?;
-    tried(
-        rt,
-        "12 by the number, one more",
-        m,
-        7,
-        1,
-        4,
-        b"\x03\x00\x00\x01",
-    )?;
+    tried(rt, "12 by the number, one less", m, 7, 1, 2, DRAW_1)?;
+    tried(rt, "12 by the number, one more", m, 7, 1, 4, DRAW_1)?;
     tried(rt, "12 by the bytes", m, 7, 1, 3, b"\x03\x00\x00\x02")?;
-    tried(rt, "12 by the length", m, 7, 1, 3, b"\x10\x00")
+    tried(rt, "12 by the length", m, 7, 1, 3, EMPTY_ATOMIC)
 }
 
 // The line of one record.
 fn tried(
     rt: &impl Print,
     what: &str,
-    before: Machine,
+    mut m: Machine,
     n: u64,
     who: usize,
     number: u64,
     op: &[u8],
 ) -> io::Result<()> {
     report::case(rt, what)?;
-    let mut m = before;
+    let before = m;
     let taken = m.take_record(n, who, number, op);
     report::answer(rt, taken)?;
     report::value(rt, "outcome", taken.map_or(0, Heard::number))?;

@@ -1,9 +1,9 @@
 // Machines out of shape, in one way each.
 ghost use Rattle.std.specs.Prelude.{◌<◌};
 
-use crate::machines;
-use basics::Refusal;
+use crate::machines::{self, EMPTY_ATOMIC};
 use machine::Machine;
+use operation::Packed;
 use std::io;
 
 pub fn walk(rt: &impl Print) -> io::Result<()> {
@@ -127,21 +127,40 @@ fn queue(rt: &impl Print) -> io::Result<()> {
     tried(
         rt,
         "a malformed operation in the queue",
-        changed(m, 0, 4, 0, 9),
+        changed(m, 0, |op| op.bytes[0] = 9),
     )?;
-    tried(rt, "an operation of no byte", changed(m, 1, 0, 0, 3))?;
-    tried(rt, "an operation of 49 bytes", changed(m, 1, 49, 0, 3))?;
-    tried(rt, "a byte past an operation", changed(m, 1, 4, 47, 1))?;
-    tried(rt, "a length past the queue", changed(m, 2, 1, 0, 0))?;
-    tried(rt, "a byte past the queue", changed(m, 15, 0, 0, 1))
+    tried(
+        rt,
+        "an operation of no byte",
+        changed(m, 1, |op| op.len = 0),
+    )?;
+    tried(
+        rt,
+        "an operation of 49 bytes",
+        changed(m, 1, |op| op.len = 49),
+    )?;
+    tried(
+        rt,
+        "a byte past an operation",
+        changed(m, 1, |op| op.bytes[47] = 1),
+    )?;
+    tried(
+        rt,
+        "a length past the queue",
+        changed(m, 2, |op| op.len = 1),
+    )?;
+    tried(
+        rt,
+        "a byte past the queue",
+        changed(m, 15, |op| op.bytes[0] = 1),
+    )
 }
 
-// The machine with another length in a place of its queue, and another byte.
-fn changed(mut m: Machine, place: usize, len: u8, at: usize, byte: u8) -> Machine
-    requires { (place < 16) × (at < 48) }
+// The machine with the operation in a place of its queue changed.
+fn changed<F: FnOnce(&mut Packed)>(mut m: Machine, place: usize, change: F) -> Machine
+    requires { (place < 16) × F.IsAlwaysCallable change }
 {
-    m.queue[place].len = len;
-    m.queue[place].bytes[at] = byte;
+    change(&mut m.queue[place]);
     m
 }
 
@@ -149,22 +168,18 @@ fn changed(mut m: Machine, place: usize, len: u8, at: usize, byte: u8) -> Machin
 fn tried(rt: &impl Print, what: &str, m: Machine) -> io::Result<()> {
     report::case(rt, what)?;
     let mut issued = m;
-    told(rt, "issue", issued.issue(b"\x10\x00"))?;
+    report::told(rt, "issue", issued.issue(EMPTY_ATOMIC))?;
     let mut noted = m;
-    told(rt, "note", noted.note(0, 0))?;
-    told(rt, "ask", m.ask(0, &mut [0; 48]))?;
+    report::told(rt, "note", noted.note(0, 0))?;
+    report::told(rt, "ask", m.ask(0, &mut [0; 48]))?;
     let mut taken = m;
-    told(rt, "record", taken.take_record(7, 0, 0, b"\x10\x00"))?;
+    report::told(rt, "record", taken.take_record(7, 0, 0, EMPTY_ATOMIC))?;
     let mut copied = m;
-    told(rt, "copy", copied.take_copy(9, &[1, 2], 3))?;
+    report::told(rt, "copy", copied.take_copy(9, &[1, 2], 3))?;
     report::state(
         rt,
         [issued, noted, taken, copied]
             .iter()
             .all(|after| *after == m),
     )
-}
-
-fn told<T: Copy>(rt: &impl Print, call: &str, answer: Result<T, Refusal>) -> io::Result<()> {
-    report::value(rt, call, basics::number(answer))
 }

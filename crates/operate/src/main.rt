@@ -5,7 +5,7 @@
 use std::io;
 use trial::Lines;
 
-// One byte of the buffer is left over, so that longer input is not taken for its first part.
+// Memory is fixed: no heap. One byte of the buffer is left over, so that longer input is not taken for its first part.
 const MOST: usize = 65_535;
 
 // Writes the trial and what becomes of it.

@@ -31,11 +31,11 @@ module _ (l : Limits) (width : ℕ) (s : List ℕ) where
 
   module _ (to amount : ℕ) (fields : Some (to, amount) ≡ fields_at l width s 2) where
     pub move_from_lem : width ≤ byte s 1 → None ≡ move_of l width s
-    unfolding move_of move_from
+    unfolding move_of
     move_from_lem h = rw (← fields) (simp (le-ltb _ _ h))
 
     pub move_of_lem : byte s 1 < width → (byte s 1 ≡ to → ⊥) → Some (One (Move (byte s 1) to amount)) ≡ move_of l width s
-    unfolding move_of move_from
+    unfolding move_of
     move_of_lem g h = rw (← fields) (simp (lt-ltb _ _ g, ne_eqb _ _ h))
 
   -- the kind that each first byte decides
@@ -126,7 +126,6 @@ module _ (l : Limits) (width : ℕ) (s : List ℕ) where
   plain_read kind says None r = tt
 
   move_read : byte s 0 ≡ 0x04 → (f : Option Fields) → FieldsAre 2 f → KindRead (move_from l width (byte s 1) f)
-  unfolding move_from
   move_read code (Some (to, amount)) r =
       by_cases KindRead (ltb (byte s 1) width && not (eqb (byte s 1) to))
       (λ h.

@@ -1,5 +1,5 @@
 -- What the first bytes of an operation say. Assumes nothing: these are definitions.
-use Rattle.std.specs.Prelude.{ℕ, ◌+◌, ◌*◌, not, ◌&&◌, List, ltb, leb, eqb, length, get_or, if◌then◌else◌, Option, Some, None}
+use Rattle.std.specs.Prelude.{ℕ, ◌≡◌, ◌+◌, ◌*◌, not, ◌&&◌, List, ltb, leb, eqb, length, get_or, if◌then◌else◌, Option, Some, None}
 use Rattle.operation.specs.Limits.{Limits}
 use Rattle.operation.specs.declared.Plain.{Plain}
 use Rattle.operation.specs.declared.Plain.TheVariants.{Need, Put, Draw, Move}
@@ -22,6 +22,10 @@ abbrev pub plain_of : (ℕ → ℕ → Plain) → Option Fields → Option Kind
 plain_of kind (Some (cell, amount)) = Some (One (kind cell amount))
 plain_of kind None = None
 
+-- a call of a cell and an amount that can only give what `kind` makes of them
+abbrev pub Makes : (ℕ → ℕ → Plain → Type 0) → (ℕ → ℕ → Plain) → Type 0
+Makes gives kind = (cell amount : ℕ) (p : Plain) → gives cell amount p → p ≡ kind cell amount
+
 -- ATOMIC says how many parts it has
 unfoldable pub atomic_of : Limits → List ℕ → Option Kind
 atomic_of l s = if leb 2 (length s) && leb (byte s 1) l.parts then Some (Atomic (byte s 1)) else None
@@ -38,7 +42,7 @@ module _ (l : Limits) (width : ℕ) where
       if leb (at + 3) (length s) then in_range (byte s at) (two (byte s (at + 1)) (byte s (at + 2))) else None
 
   -- MOVE goes from a cell to another one
-  unfoldable pub move_from : ℕ → Option Fields → Option Kind
+  abbrev pub move_from : ℕ → Option Fields → Option Kind
   move_from from (Some (to, amount)) =
       if ltb from width && not (eqb from to) then Some (One (Move from to amount)) else None
   move_from from None = None

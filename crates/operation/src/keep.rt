@@ -21,6 +21,7 @@ impl Packed {
         let mut bytes = [0; BYTES];
         lay(op, &mut bytes);
         Packed {
+            // std has no `From` here: the check proves that nothing is lost.
             len: op.len() as u8,
             bytes,
         }

@@ -1,7 +1,7 @@
 // What the first bytes of an operation say.
 ghost use Rattle.std.specs.Prelude.{◌≡◌, ◌≤◌};
 ghost use Rattle.operation.specs.Limits.{limits};
-ghost use Rattle.operation.specs.FirstBytes.{fields_at, move_of, atomic_of, kind_of};
+ghost use Rattle.operation.specs.FirstBytes.{fields_at, plain_of, Makes, move_of, atomic_of, kind_of};
 
 use crate::{AMOUNT, PARTS, Plain};
 
@@ -20,18 +20,9 @@ pub fn read(s: &[u8], width: usize) -> Option<Kind>
 {
     // An arm for each code byte, as the paper has a line for each.
     match *s.first()? {
-        0x01 => {
-            let (cell, amount) = read_fields(s, width, 1)?;
-            Some(Kind::One(Plain::Need(cell, amount)))
-        }
-        0x02 => {
-            let (cell, amount) = read_fields(s, width, 1)?;
-            Some(Kind::One(Plain::Put(cell, amount)))
-        }
-        0x03 => {
-            let (cell, amount) = read_fields(s, width, 1)?;
-            Some(Kind::One(Plain::Draw(cell, amount)))
-        }
+        0x01 => read_plain(s, width, Plain::Need),
+        0x02 => read_plain(s, width, Plain::Put),
+        0x03 => read_plain(s, width, Plain::Draw),
         0x04 => read_move(s, width),
         0x10 => read_atomic(s),
         0x11 => Some(Kind::Orelse),
@@ -39,20 +30,23 @@ pub fn read(s: &[u8], width: usize) -> Option<Kind>
     }
 }
 
+// NEED, PUT and DRAW: what `kind` makes of the cell and the amount.
+fn read_plain<F: FnOnce(u8, u16) -> Plain>(s: &[u8], width: usize, kind: F) -> Option<Kind>
+    requires { F.IsAlwaysCallable kind }
+    ensures { (makes : _) → Makes (F.post kind) makes → result ≡ plain_of makes (fields_at limits width s.now 1) }
+{
+    let (cell, amount) = read_fields(s, width, 1)?;
+    Some(Kind::One(kind(cell, amount)))
+}
+
 // MOVE: from one cell to another.
-#[tactic(auto, unfolding(crate::specs::FirstBytes::move_of, crate::specs::FirstBytes::move_from, crate::specs::FirstBytes::fields_at))]
+#[tactic(auto, unfolding(crate::specs::FirstBytes::move_of, crate::specs::FirstBytes::fields_at))]
 fn read_move(s: &[u8], width: usize) -> Option<Kind>
     ensures { result ≡ move_of limits width s.now }
 {
     let (to, amount) = read_fields(s, width, 2)?;
     let from = s[1];
-    if width <= usize::from(from) {
-        return None;
-    }
-    if from == to {
-        return None;
-    }
-    Some(Kind::One(Plain::Move(from, to, amount)))
+    (usize::from(from) < width && from != to).then_some(Kind::One(Plain::Move(from, to, amount)))
 }
 
 // ATOMIC: how many parts.
@@ -60,11 +54,7 @@ fn read_move(s: &[u8], width: usize) -> Option<Kind>
 fn read_atomic(s: &[u8]) -> Option<Kind>
     ensures { result ≡ atomic_of limits s.now }
 {
-    let n = *s.get(1)?;
-    if PARTS < n {
-        return None;
-    }
-    Some(Kind::Atomic(n))
+    s.get(1).copied().filter(|n| *n <= PARTS).map(Kind::Atomic)
 }
 
 // The cell at `at` and the amount after it, both in range.
@@ -73,19 +63,9 @@ fn read_fields(s: &[u8], width: usize, at: usize) -> Option<(u8, u16)>
     requires { at ≤ 2 }
     ensures { result ≡ fields_at limits width s.now at }
 {
-    if s.len() < at + 3 {
+    let [cell, high, low, ..] = s.get(at..)? else {
         return None;
-    }
-    let cell = s[at];
-    if width <= usize::from(cell) {
-        return None;
-    }
-    let amount = u16::from_be_bytes([s[at + 1], s[at + 2]]);
-    if amount < 1 {
-        return None;
-    }
-    if AMOUNT < amount {
-        return None;
-    }
-    Some((cell, amount))
+    };
+    let amount = u16::from_be_bytes([*high, *low]);
+    (usize::from(*cell) < width && (1..=AMOUNT).contains(&amount)).then_some((*cell, amount))
 }

@@ -49,11 +49,5 @@ pub struct Packed {
 pub fn well_formed(s: &[u8], width: usize) -> bool
     ensures { result ≡ well_formed limits width s.now }
 {
-    if CELLS < width {
-        return false;
-    }
-    if BYTES < s.len() {
-        return false;
-    }
-    size::operation(s, width, DEPTH) == Some(s.len())
+    width <= CELLS && s.len() <= BYTES && size::operation(s, width, DEPTH) == Some(s.len())
 }

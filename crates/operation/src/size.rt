@@ -17,9 +17,7 @@ impl Plain {
         ensures { result ≡ plain_size self }
     {
         match self {
-            Plain::Need(_, _) => 4,
-            Plain::Put(_, _) => 4,
-            Plain::Draw(_, _) => 4,
+            Plain::Need(_, _) | Plain::Put(_, _) | Plain::Draw(_, _) => 4,
             Plain::Move(_, _, _) => 5,
         }
     }

@@ -17,7 +17,12 @@ pub fn value(rt: &impl Print, name: &str, n: impl Display + Copy) -> io::Result<
 
 // ` answer=12`, by the paper's number.
 pub fn answer<T: Copy>(rt: &impl Print, answer: Result<T, Refusal>) -> io::Result<()> {
-    value(rt, "answer", basics::number(answer))
+    told(rt, "answer", answer)
+}
+
+// ` issue=12`: the same by the name of the call.
+pub fn told<T: Copy>(rt: &impl Print, call: &str, answer: Result<T, Refusal>) -> io::Result<()> {
+    value(rt, call, basics::number(answer))
 }
 
 // What became of the state, at the end of a line.
@@ -29,10 +34,10 @@ pub fn state(rt: &impl Print, as_it_came: bool) -> io::Result<()> {
     }
 }
 
-// ` name=5,0`: the first `n` of `counts`.
-pub fn counts<T: Display>(rt: &impl Print, name: &str, counts: &[T], n: usize) -> io::Result<()> {
+// ` name=5,0`, as counts stand in a line.
+pub fn counts<T: Display>(rt: &impl Print, name: &str, counts: &[T]) -> io::Result<()> {
     print!(rt; " {name}=")?;
-    for (i, x) in counts.iter().take(n).enumerate() {
+    for (i, x) in counts.iter().enumerate() {
         if 0 < i {
             rt.print(",")?;
         }

@@ -12,7 +12,7 @@ ghost use Rattle.state.specs.Holding.{holds as holds_one, blank as is_blank};
 use basics::{are_counts, are_zeros};
 use effect::Cells;
 use operation::{BYTES, CELLS, HELD, Packed};
-pub use start::BadStart;
+pub use start::RefusedStart;
 
 // The paper's numbers, by the names of specs/Numbers.antt: how many machines there are at most, how many operations each
 // issues at most, and how many are decided at most.

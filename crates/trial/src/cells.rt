@@ -15,14 +15,14 @@ pub struct Given {
 pub fn read(s: &[u8]) -> Option<Given> {
     let mut cells = [0; CELLS];
     let mut width = 0;
-    for digits in s.split(|b| *b == b',') {
-        *cells.get_mut(width)? = number(digits)?;
-        width += 1;
+    for (i, digits) in s.split(|b| *b == b',').enumerate() {
+        *cells.get_mut(i)? = number(digits)?;
+        width = i + 1;
     }
     Some(Given { width, cells })
 }
 
-// The number up to the limit that `digits` are, of which there is at least one.
+// The number up to the limit that `digits` are; none where there is no digit.
 fn number(digits: &[u8]) -> Option<u32> {
     if digits.is_empty() {
         return None;

@@ -12,6 +12,8 @@ use effect::Failure;
 pub use input::{Lines, fill, line_end};
 use lines::put::Pen;
 
+// Memory is fixed, so buffers are arrays.
+//
 // Room for the longest answer: `succeeds `, and 64 cells of six digits with commas between them.
 pub const ANSWER: usize = 512;
 

@@ -1,4 +1,4 @@
-use Rattle.std.proofs.Common.{arith, rules, refl, ap, ◌≤◌, ◌*◌, ◌+◌, List, ℕ, length, take, map}
+use Rattle.std.proofs.Common.{arith, rules, refl, ap, ◌≤◌, List, ℕ, length, take, map}
 use Rattle.std.proofs.Math.Nat.{min-le_left}
 use Rattle.std.proofs.lemmas.List.{length-take, map-id}
 use Rattle.operation.specs.Limits.{limits}
@@ -10,9 +10,6 @@ use Rattle.hubtext.specs.Values.{number}
 use Rattle.hubtext.specs.Reading.{hub_form}
 use Rattle.hubtext.proofs.WrittenLines.{whole_text}
 use Rattle.hubtext.proofs.lay.text.Goals as goal
-
-pub total-decided-requires : goal.total-decided-requires
-total-decided-requires c = (good limits c.args.h.now.hub c.args.h.now.in_shape).next
 
 pub shared_ref_as_front-number_lines : goal.shared_ref_as_front-number_lines
 shared_ref_as_front-number_lines c = (good limits c.args.h.now.hub c.args.h.now.in_shape).sizes.width_most
@@ -50,8 +47,8 @@ record_lines-requires c =
       (
         omega (arith, c.kept-kept.ensures),
         (
-          omega (arith, c.total-decided.ensures.1),
-          (λ i l. kept_short limits h.hub g _ _ (omega (arith, c.total-decided.ensures.0, c.kept-kept.ensures, l)) refl),
+          omega (arith, c.decided-decided.ensures.1),
+          (λ i l. kept_short limits h.hub g _ _ (omega (arith, c.decided-decided.ensures.0, c.kept-kept.ensures, l)) refl),
         ),
       ),
     )
@@ -60,7 +57,7 @@ pub returns : goal.returns
 returns c =
     let h = c.args.h.now.hub in
     let lines = λ (key xs : List ℕ). ap (λ ys. text_of (hub_form limits) (map (number key) ys)) (map-id xs) in
-    let all = whole_text limits h _ _ c.total-decided.ensures.0 c.kept-kept.ensures c.head.ensures.lays
+    let all = whole_text limits h _ _ c.decided-decided.ensures.0 c.kept-kept.ensures c.head.ensures.lays
     (lays_same c.number_lines.ensures.lays (lines cell= (take h.width h.cells)))
     (lays_same c.number_lines-2.ensures.lays (lines next= (take h.machines h.next))) c.record_lines.ensures in
     lays_end all (search rules)

@@ -32,7 +32,7 @@ invariant_of-self c =
     record {
       in_shape =
           (submit_known_leaves limits a.self.now.hub sized a.machine a.op.now a.number a.self.now.in_shape
-          c.requires.machine c.requires.number c.requires.op (omega arith) _ _ _ c.is_ok-ran.ensures.value
+          c.requires.machine c.requires.number c.requires.op (omega arith) _ _ _ c.is_ok-succeeded.ensures.value
           c.run_known.ensures _ c.take.ensures).1;
     }
 
@@ -41,5 +41,5 @@ returns c =
     let a = c.args in
     let sized : Sized a.self.now.hub = record { places = search rules; machines = search rules } in
     (submit_known_leaves limits a.self.now.hub sized a.machine a.op.now a.number a.self.now.in_shape
-    c.requires.machine c.requires.number c.requires.op (omega arith) _ _ _ c.is_ok-ran.ensures.value
+    c.requires.machine c.requires.number c.requires.op (omega arith) _ _ _ c.is_ok-succeeded.ensures.value
     c.run_known.ensures _ c.take.ensures).0
