@@ -30,7 +30,7 @@ fn ring(records: &Records, machines: usize, width: usize, decided: u64) -> bool
     places(records, machines, width, decided)
 }
 
-// The same, said as the chain goes.
+// The same, said as the chain goes. The hub's own fields and their sum, which a struct would hold for these tests alone.
 fn places(records: &[Record], machines: usize, width: usize, decided: u64) -> bool
     ensures { result ≡ list_all (λ p. place_good limits machines width decided p.0 p.1) (enumerate_from 0 records.now) }
 {
@@ -62,7 +62,7 @@ fn holds(r: &Record, machines: usize, width: usize) -> bool
     usize::from(r.machine) < machines && state::holds(&r.op, width)
 }
 
-// Whether it holds none: all zeros.
+// Whether it holds none: all zeros. Field by field, as the definition: from the derived `==` the proof did not close.
 #[tactic(auto, unfolding(crate::specs::Shape::record_blank))]
 fn blank(r: &Record) -> bool
     ensures { result ≡ record_blank r.now }

@@ -136,7 +136,8 @@ impl Machine {
         self.in_shape()?.ask(j, buf)
     }
 
-    // Take in record `n`: operation `number` of machine `who`.
+    // Take in record `n`: operation `number` of machine `who`. These are the paper's own list; a struct of them would be made at
+    // a call to be taken apart in it.
     #[tactic(auto, unfolding(crate::specs::Recording::record_of))]
     pub fn take_record(
         &mut self,

@@ -47,7 +47,7 @@ pub fn holds(o: &Packed, width: usize) -> bool
         && are_zeros(&o.bytes, usize::from(o.len))
 }
 
-// Whether a place holds none: all zeros.
+// Whether a place holds none: all zeros. Field by field, as the definition: from the derived `==` the proof did not close.
 #[tactic(auto, unfolding(crate::specs::Holding::blank))]
 pub fn blank(o: &Packed) -> bool
     ensures { result ≡ is_blank o.now }
