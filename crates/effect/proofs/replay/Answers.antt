@@ -7,5 +7,5 @@ loop-o-init c = let a = c.args in replay_none limits a.width a.queue.now a.cells
 
 pub loop-o-preserved : goal.loop-o-preserved
 loop-o-preserved c =
-    replay_more limits c.args.width c.args.queue.now c.args.cells.now c.loop-o.o-index c.loop-o.cells _ _
+    replay_more limits c.args.width _ c.args.cells.now c.loop-o.o-index c.loop-o.cells _ _
     c.loop-o-test.true c.loop-o.invariant (rw c.op.ensures.value at c.run_known.ensures)
