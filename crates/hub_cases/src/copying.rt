@@ -24,12 +24,12 @@ pub fn walk(rt: &impl Print) -> io::Result<()> {
 
 // The line of one copy, with the lent buffer after it.
 fn tried(rt: &impl Print, what: &str, h: &Hub, machine: usize, buf: &mut [u32]) -> io::Result<()> {
-    report::case(rt, what)?;
+    report::case(rt, what.as_bytes())?;
     let copied = h.copy(machine, buf);
     report::answer(rt, copied)?;
     let told = copied.unwrap_or_default();
-    report::value(rt, "position", told.position)?;
-    report::value(rt, "decided", told.decided)?;
-    report::counts(rt, "buffer", buf)?;
+    report::value(rt, b"position", told.position)?;
+    report::value(rt, b"decided", told.decided)?;
+    report::counts(rt, b"buffer", buf)?;
     rt.println("")
 }

@@ -53,10 +53,10 @@ fn fetched(rt: &impl Print, h: &Hub, n: u64) -> io::Result<()> {
 
 // The line of one fetch, with the lent buffer after it.
 fn tried(rt: &impl Print, what: &str, h: &Hub, n: u64, buf: &mut [u8]) -> io::Result<()> {
-    report::case(rt, what)?;
+    report::case(rt, what.as_bytes())?;
     let got = h.fetch(n, buf);
     whose(rt, got)?;
-    report::value(rt, "len", got.unwrap_or_default().len)?;
+    report::value(rt, b"len", got.unwrap_or_default().len)?;
     rt.print(", buffer ")?;
     report::hex(rt, buf)?;
     rt.println("")
@@ -66,6 +66,6 @@ fn tried(rt: &impl Print, what: &str, h: &Hub, n: u64, buf: &mut [u8]) -> io::Re
 fn whose(rt: &impl Print, got: Result<Fetched, Refusal>) -> io::Result<()> {
     report::answer(rt, got)?;
     let told = got.unwrap_or_default();
-    report::value(rt, "machine", told.machine)?;
-    report::value(rt, "number", told.number)
+    report::value(rt, b"machine", told.machine)?;
+    report::value(rt, b"number", told.number)
 }

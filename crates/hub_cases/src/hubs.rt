@@ -56,7 +56,7 @@ pub fn out_of_shape(mut h: Hub) -> Hub {
 // Writes how a call left the hub.
 pub fn tell(rt: &impl Print, h: &Hub) -> io::Result<()> {
     rt.print("\n     ")?;
-    report::counts(rt, "cells", h.cells.get(..h.width).unwrap_or(&h.cells))?;
-    report::counts(rt, "next", h.next.get(..h.machines).unwrap_or(&h.next))?;
+    report::counts(rt, b"cells", h.cells.get(..h.width).unwrap_or(&h.cells))?;
+    report::counts(rt, b"next", h.next.get(..h.machines).unwrap_or(&h.next))?;
     rt.println("")
 }

@@ -167,10 +167,10 @@ fn swapped(mut h: Hub) -> Hub {
 
 // The line of one state: what each call answers, and whether submit changed it.
 fn tried(rt: &impl Print, what: &str, mut h: Hub) -> io::Result<()> {
-    report::case(rt, what)?;
+    report::case(rt, what.as_bytes())?;
     let before = h;
-    report::told(rt, "submit", h.submit(1, 1, EMPTY_ATOMIC))?;
-    report::told(rt, "fetch", before.fetch(3, &mut [0; 48]))?;
-    report::told(rt, "copy", before.copy(1, &mut [0; 64]))?;
+    report::told(rt, b"submit", h.submit(1, 1, EMPTY_ATOMIC))?;
+    report::told(rt, b"fetch", before.fetch(3, &mut [0; 48]))?;
+    report::told(rt, b"copy", before.copy(1, &mut [0; 64]))?;
     report::state(rt, h == before)
 }

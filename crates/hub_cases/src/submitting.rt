@@ -57,13 +57,13 @@ fn tried(
     number: u64,
     op: &[u8],
 ) -> io::Result<()> {
-    report::case(rt, what)?;
+    report::case(rt, what.as_bytes())?;
     let before = h;
     let submitted = h.submit(machine, number, op);
     report::answer(rt, submitted)?;
     let told = submitted.unwrap_or_default();
-    report::value(rt, "outcome", u8::from(told.succeeded))?;
-    report::value(rt, "record", told.number)?;
+    report::value(rt, b"outcome", u8::from(told.succeeded))?;
+    report::value(rt, b"record", told.number)?;
     match submitted {
         Ok(_) => hubs::tell(rt, &h),
         Err(_) => report::state(rt, h == before),

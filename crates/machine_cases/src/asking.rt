@@ -18,11 +18,11 @@ pub fn walk(rt: &impl Print) -> io::Result<()> {
 
 // The line of one ask, with the lent buffer after it.
 fn tried(rt: &impl Print, what: &str, m: &Machine, j: usize, buf: &mut [u8]) -> io::Result<()> {
-    report::case(rt, what)?;
+    report::case(rt, what.as_bytes())?;
     let asked = m.ask(j, buf);
     report::answer(rt, asked)?;
-    report::value(rt, "number", asked.map_or(0, |sale| sale.number))?;
-    report::value(rt, "len", asked.map_or(0, |sale| sale.len))?;
+    report::value(rt, b"number", asked.map_or(0, |sale| sale.number))?;
+    report::value(rt, b"len", asked.map_or(0, |sale| sale.len))?;
     rt.print(", buffer ")?;
     report::hex(rt, buf)?;
     rt.println("")

@@ -45,10 +45,10 @@ fn tried(
     cells: &[u32],
     decided: u64,
 ) -> io::Result<()> {
-    report::case(rt, what)?;
+    report::case(rt, what.as_bytes())?;
     let before = m;
     let copied = m.take_copy(position, cells, decided);
     report::answer(rt, copied)?;
-    report::value(rt, "left", copied.unwrap_or(0))?;
+    report::value(rt, b"left", copied.unwrap_or(0))?;
     machines::end(rt, copied, &before, &m)
 }

@@ -30,10 +30,10 @@ pub fn walk(rt: &impl Print) -> io::Result<()> {
 
 // The line of one issue.
 fn tried(rt: &impl Print, what: &str, mut m: Machine, op: &[u8]) -> io::Result<()> {
-    report::case(rt, what)?;
+    report::case(rt, what.as_bytes())?;
     let before = m;
     let issued = m.issue(op);
     report::answer(rt, issued)?;
-    report::value(rt, "number", issued.unwrap_or(0))?;
+    report::value(rt, b"number", issued.unwrap_or(0))?;
     machines::end(rt, issued, &before, &m)
 }

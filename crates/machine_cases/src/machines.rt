@@ -72,16 +72,16 @@ pub fn out_of_shape(m: Machine) -> Machine {
 // Writes how a call left the machine.
 fn tell(rt: &impl Print, m: &Machine) -> io::Result<()> {
     rt.print("\n     ")?;
-    report::value(rt, "position", m.position)?;
-    report::value(rt, "waiting", m.waiting)?;
-    report::value(rt, "issued", m.issued)?;
-    report::value(rt, "done", m.done)?;
-    report::value(rt, "kept", m.kept)?;
-    report::value(rt, "lost", m.lost)?;
-    report::value(rt, "unheard", m.unheard)?;
-    report::counts(rt, "agreed", m.agreed.get(..m.width).unwrap_or(&m.agreed))?;
-    report::counts(rt, "guess", m.guess.get(..m.width).unwrap_or(&m.guess))?;
-    report::counts(rt, "notes", &m.notes)?;
+    report::value(rt, b"position", m.position)?;
+    report::value(rt, b"waiting", m.waiting)?;
+    report::value(rt, b"issued", m.issued)?;
+    report::value(rt, b"done", m.done)?;
+    report::value(rt, b"kept", m.kept)?;
+    report::value(rt, b"lost", m.lost)?;
+    report::value(rt, b"unheard", m.unheard)?;
+    report::counts(rt, b"agreed", m.agreed.get(..m.width).unwrap_or(&m.agreed))?;
+    report::counts(rt, b"guess", m.guess.get(..m.width).unwrap_or(&m.guess))?;
+    report::counts(rt, b"notes", &m.notes)?;
     rt.println("")
 }
 

@@ -17,10 +17,10 @@ pub fn walk(rt: &impl Print) -> io::Result<()> {
 
 // The line of one note.
 fn tried(rt: &impl Print, what: &str, mut m: Machine, k: usize, cell: usize) -> io::Result<()> {
-    report::case(rt, what)?;
+    report::case(rt, what.as_bytes())?;
     let before = m;
     let noted = m.note(k, cell);
     report::answer(rt, noted)?;
-    report::value(rt, "count", noted.unwrap_or(0))?;
+    report::value(rt, b"count", noted.unwrap_or(0))?;
     machines::end(rt, noted, &before, &m)
 }

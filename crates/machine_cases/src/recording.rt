@@ -106,10 +106,10 @@ fn tried(
     number: u64,
     op: &[u8],
 ) -> io::Result<()> {
-    report::case(rt, what)?;
+    report::case(rt, what.as_bytes())?;
     let before = m;
     let taken = m.take_record(n, who, number, op);
     report::answer(rt, taken)?;
-    report::value(rt, "outcome", taken.map_or(0, Heard::number))?;
+    report::value(rt, b"outcome", taken.map_or(0, Heard::number))?;
     machines::end(rt, taken, &before, &m)
 }

@@ -166,16 +166,16 @@ fn changed<F: FnOnce(&mut Packed)>(mut m: Machine, place: usize, change: F) -> M
 
 // The line of one state: what each call answers, and whether any changed it.
 fn tried(rt: &impl Print, what: &str, m: Machine) -> io::Result<()> {
-    report::case(rt, what)?;
+    report::case(rt, what.as_bytes())?;
     let mut issued = m;
-    report::told(rt, "issue", issued.issue(EMPTY_ATOMIC))?;
+    report::told(rt, b"issue", issued.issue(EMPTY_ATOMIC))?;
     let mut noted = m;
-    report::told(rt, "note", noted.note(0, 0))?;
-    report::told(rt, "ask", m.ask(0, &mut [0; 48]))?;
+    report::told(rt, b"note", noted.note(0, 0))?;
+    report::told(rt, b"ask", m.ask(0, &mut [0; 48]))?;
     let mut taken = m;
-    report::told(rt, "record", taken.take_record(7, 0, 0, EMPTY_ATOMIC))?;
+    report::told(rt, b"record", taken.take_record(7, 0, 0, EMPTY_ATOMIC))?;
     let mut copied = m;
-    report::told(rt, "copy", copied.take_copy(9, &[1, 2], 3))?;
+    report::told(rt, b"copy", copied.take_copy(9, &[1, 2], 3))?;
     report::state(
         rt,
         [issued, noted, taken, copied]

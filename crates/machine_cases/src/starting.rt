@@ -17,7 +17,7 @@ pub fn walk(rt: &impl Print) -> io::Result<()> {
 
 // The line of one start. What a bad start hands back is itself out of shape.
 fn tried(rt: &impl Print, what: &str, machines: usize, me: usize, first: &[u32]) -> io::Result<()> {
-    report::case(rt, what)?;
+    report::case(rt, what.as_bytes())?;
     let made = Machine::fresh(machines, me, first);
     report::answer(rt, made.map_err(Refusal::from))?;
     rt.print(", then note:")?;

@@ -1,4 +1,4 @@
-// What a program that tries cases writes on standard output.
+// What a program that tries cases writes on standard output. Names and words are bytes, and go out as they are.
 #![tactic(auto)]
 
 use basics::Refusal;
@@ -6,22 +6,31 @@ use std::fmt::Display;
 use std::io;
 
 // `  case:`, as the line of a case begins.
-pub fn case(rt: &impl Print, what: &str) -> io::Result<()> {
-    print!(rt; "  {what}:")
+pub fn case(rt: &impl Print, what: &[u8]) -> io::Result<()> {
+    rt.print("  ")?;
+    rt.write_all(what)?;
+    rt.print(":")
 }
 
 // ` name=7`, as a value stands in a line.
-pub fn value(rt: &impl Print, name: &str, n: impl Display + Copy) -> io::Result<()> {
-    print!(rt; " {name}={n}")
+pub fn value(rt: &impl Print, name: &[u8], n: impl Display + Copy) -> io::Result<()> {
+    named(rt, name)?;
+    rt.print(n)
+}
+
+fn named(rt: &impl Print, name: &[u8]) -> io::Result<()> {
+    rt.print(" ")?;
+    rt.write_all(name)?;
+    rt.print("=")
 }
 
 // ` answer=12`, by the paper's number.
 pub fn answer<T: Copy>(rt: &impl Print, answer: Result<T, Refusal>) -> io::Result<()> {
-    told(rt, "answer", answer)
+    told(rt, b"answer", answer)
 }
 
 // ` issue=12`: the same by the name of the call.
-pub fn told<T: Copy>(rt: &impl Print, call: &str, answer: Result<T, Refusal>) -> io::Result<()> {
+pub fn told<T: Copy>(rt: &impl Print, call: &[u8], answer: Result<T, Refusal>) -> io::Result<()> {
     value(rt, call, basics::number(answer))
 }
 
@@ -35,8 +44,8 @@ pub fn state(rt: &impl Print, as_it_came: bool) -> io::Result<()> {
 }
 
 // ` name=5,0`, as counts stand in a line.
-pub fn counts<T: Display>(rt: &impl Print, name: &str, counts: &[T]) -> io::Result<()> {
-    print!(rt; " {name}=")?;
+pub fn counts<T: Display>(rt: &impl Print, name: &[u8], counts: &[T]) -> io::Result<()> {
+    named(rt, name)?;
     for (i, x) in counts.iter().enumerate() {
         if 0 < i {
             rt.print(",")?;
