@@ -73,17 +73,27 @@ module _ (l : Limits) (h : Hub) (sized : Sized h) (machine : ℕ) (op : List ℕ
       Keeps : Submitted → Type 0
       Keeps r = shaped l r.hub ≡ true
 
-  -- an operation that has been run on the cells and is taken: what submit tells, and the state is in shape
+  -- what a known submit answers leaves the state in shape
   pub submit_known_leaves :
+      (number : ℕ) → shaped l h ≡ true → machine < h.machines → number < most_issued →
+      well_formed l h.width op ≡ true → (r : Submitted) → r ≡ submit_known l h machine number op →
+      (r ≡ submit_known l h machine number op) × (shaped l r.hub ≡ true)
+  submit_known_leaves number s a b w r e = (
+    e,
+    subst (λ (x : Submitted). shaped l x.hub ≡ true) (sym e) (submit_known_keeps number s a b w),
+  )
+
+  -- an operation that has been run on the cells and is taken: what submit tells, and the state is in shape
+  pub submit_taken_leaves :
       (number : ℕ) → shaped l h ≡ true → machine < h.machines → number < most_issued →
       well_formed l h.width op ≡ true → number ≡ next_of h machine → (ok ran_ok : Bool) (cells : List ℕ) → ok ≡ ran_ok →
       did ran_ok cells ≡ ran l h op → (r : Submitted) →
       r ≡ taken l (record h { cells = cells }) machine number op (did ok cells) →
       (r ≡ submit_known l h machine number op) × (shaped l r.hub ≡ true)
   unfolding taken
-  submit_known_leaves number s a b w i ok ran_ok cells t e r f =
+  submit_taken_leaves number s a b w i ok ran_ok cells t e r f =
       let p = f ∙ is_next l h machine number op (did ok cells) i (ap (λ k. did k cells) t ∙ e) in
-      (p, subst (λ (x : Submitted). shaped l x.hub ≡ true) (sym p) (submit_known_keeps number s a b w))
+      submit_known_leaves number s a b w r p
 
   pub submit_keeps : (number : ℕ) → shaped l h ≡ true → shaped l (submit_of l h machine number op).hub ≡ true
   unfolding submit_of

@@ -2,7 +2,7 @@ use Rattle.std.proofs.Common.{rules, arith}
 use Rattle.operation.specs.Limits.{limits}
 use Rattle.operation.proofs.WellFormed.{formed, op_of}
 use Rattle.hub.proofs.GoodShape.{good}
-use Rattle.hub.proofs.Keeping.{Sized, submit_known_leaves}
+use Rattle.hub.proofs.Keeping.{Sized, submit_taken_leaves}
 use Rattle.hub.proofs.in_shape.InShape.submit.Goals as goal
 
 pub offset_bounds-self-machine : goal.offset_bounds-self-machine
@@ -31,7 +31,7 @@ invariant_of-self c =
     let sized : Sized a.self.now.hub = record { places = search rules; machines = search rules } in
     record {
       in_shape =
-          (submit_known_leaves limits a.self.now.hub sized a.machine a.op.now a.number a.self.now.in_shape
+          (submit_taken_leaves limits a.self.now.hub sized a.machine a.op.now a.number a.self.now.in_shape
           c.requires.machine c.requires.number c.requires.op (omega arith) _ _ _ c.is_ok-succeeded.ensures.value
           c.run_known.ensures _ c.take.ensures).1;
     }
@@ -40,6 +40,6 @@ pub returns : goal.returns
 returns c =
     let a = c.args in
     let sized : Sized a.self.now.hub = record { places = search rules; machines = search rules } in
-    (submit_known_leaves limits a.self.now.hub sized a.machine a.op.now a.number a.self.now.in_shape
+    (submit_taken_leaves limits a.self.now.hub sized a.machine a.op.now a.number a.self.now.in_shape
     c.requires.machine c.requires.number c.requires.op (omega arith) _ _ _ c.is_ok-succeeded.ensures.value
     c.run_known.ensures _ c.take.ensures).0
