@@ -169,8 +169,8 @@ fn swapped(mut h: Hub) -> Hub {
 fn tried(rt: &impl Print, what: &str, mut h: Hub) -> io::Result<()> {
     report::case(rt, what.as_bytes())?;
     let before = h;
-    report::told(rt, b"submit", h.submit(1, 1, EMPTY_ATOMIC))?;
-    report::told(rt, b"fetch", before.fetch(3, &mut [0; 48]))?;
-    report::told(rt, b"copy", before.copy(1, &mut [0; 64]))?;
+    report::told_in_bytes(rt, b"submit", h.submit(1, 1, EMPTY_ATOMIC))?;
+    report::told_in_bytes(rt, b"fetch", before.fetch(3, &mut [0; 48]))?;
+    report::told_in_bytes(rt, b"copy", before.copy(1, &mut [0; 64]))?;
     report::state(rt, h == before)
 }

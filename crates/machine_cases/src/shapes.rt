@@ -168,14 +168,14 @@ fn changed<F: FnOnce(&mut Packed)>(mut m: Machine, place: usize, change: F) -> M
 fn tried(rt: &impl Print, what: &str, m: Machine) -> io::Result<()> {
     report::case(rt, what.as_bytes())?;
     let mut issued = m;
-    report::told(rt, b"issue", issued.issue(EMPTY_ATOMIC))?;
+    report::told_in_bytes(rt, b"issue", issued.issue(EMPTY_ATOMIC))?;
     let mut noted = m;
-    report::told(rt, b"note", noted.note(0, 0))?;
-    report::told(rt, b"ask", m.ask(0, &mut [0; 48]))?;
+    report::told_in_bytes(rt, b"note", noted.note(0, 0))?;
+    report::told_in_bytes(rt, b"ask", m.ask(0, &mut [0; 48]))?;
     let mut taken = m;
-    report::told(rt, b"record", taken.take_record(7, 0, 0, EMPTY_ATOMIC))?;
+    report::told_in_bytes(rt, b"record", taken.take_record(7, 0, 0, EMPTY_ATOMIC))?;
     let mut copied = m;
-    report::told(rt, b"copy", copied.take_copy(9, &[1, 2], 3))?;
+    report::told_in_bytes(rt, b"copy", copied.take_copy(9, &[1, 2], 3))?;
     report::state(
         rt,
         [issued, noted, taken, copied]

@@ -26,12 +26,21 @@ fn named(rt: &impl Print, name: &[u8]) -> io::Result<()> {
 
 // ` answer=12`, by the paper's number.
 pub fn answer<T: Copy>(rt: &impl Print, answer: Result<T, Refusal>) -> io::Result<()> {
-    told(rt, b"answer", answer)
+    told_in_bytes(rt, b"answer", answer)
 }
 
 // ` issue=12`: the same by the name of the call.
-pub fn told<T: Copy>(rt: &impl Print, call: &[u8], answer: Result<T, Refusal>) -> io::Result<()> {
+pub fn told_in_bytes<T: Copy>(
+    rt: &impl Print,
+    call: &[u8],
+    answer: Result<T, Refusal>,
+) -> io::Result<()> {
     value(rt, call, basics::number(answer))
+}
+
+// The same at once and all as text, for a handle that takes text alone.
+pub fn told<T: Copy>(rt: &impl Print, call: &str, answer: Result<T, Refusal>) -> io::Result<()> {
+    print!(rt; " {call}={}", basics::number(answer))
 }
 
 // What became of the state, at the end of a line.
@@ -61,4 +70,64 @@ pub fn hex(rt: &impl Print, s: &[u8]) -> io::Result<()> {
         print!(rt; "{b:02x}")?;
     }
     Ok(())
+}
+
+#[cfg(test)]
+mod tests {
+    use super::*;
+    use std::fmt;
+    use std::fmt::Write;
+    use std::io::{Error, ErrorKind};
+
+    // A handle that takes this text, at once, and no bytes.
+    #[derive(Drop)]
+    struct Takes<'a> {
+        text: &'a str,
+    }
+
+    // What of a text is still to come.
+    #[derive(Drop)]
+    struct Rest<'a> {
+        text: &'a str,
+    }
+
+    impl<'a> Write for Rest<'a> {
+        fn write_str(&mut self, s: &str) -> fmt::Result {
+            self.text = self.text.strip_prefix(s).ok_or(fmt::Error)?;
+            Ok(())
+        }
+    }
+
+    impl<'a> Print for Takes<'a> {
+        fn print<D: Display + Drop>(&self, value: D) -> io::Result<()> {
+            let mut rest = Rest { text: self.text };
+            match write!(rest, "{value}") {
+                Ok(()) if rest.text.is_empty() => Ok(()),
+                _ => Err(Error::from(ErrorKind::InvalidData)),
+            }
+        }
+
+        fn println<D: Display + Drop>(&self, _: D) -> io::Result<()> {
+            Err(Error::from(ErrorKind::Unsupported))
+        }
+
+        fn write_all(&self, _: &[u8]) -> io::Result<()> {
+            Err(Error::from(ErrorKind::Unsupported))
+        }
+    }
+
+    #[test]
+    fn told_is_text_at_once() -> io::Result<()> {
+        told(&Takes { text: " issue=0" }, "issue", Ok::<u64, Refusal>(7))?;
+        told(
+            &Takes { text: " última=3" },
+            "última",
+            Err::<u64, Refusal>(Refusal::QueueFull),
+        )?;
+        told(
+            &Takes { text: " =17" },
+            "",
+            Err::<(), Refusal>(Refusal::BadStart),
+        )
+    }
 }
