@@ -1,4 +1,5 @@
-// What a program that tries cases writes on standard output. Names and words are bytes, and go out as they are.
+// What a program that tries cases writes on standard output. Names and words are bytes, but for the name that `told`
+// takes, and go out as they are.
 #![tactic(auto)]
 
 use basics::Refusal;
@@ -75,14 +76,15 @@ pub fn hex(rt: &impl Print, s: &[u8]) -> io::Result<()> {
 #[cfg(test)]
 mod tests {
     use super::*;
+    use std::cell::Cell;
     use std::fmt;
     use std::fmt::Write;
     use std::io::{Error, ErrorKind};
 
-    // A handle that takes this text, at once, and no bytes.
+    // A handle that takes this text, once and whole, and no bytes.
     #[derive(Drop)]
     struct Takes<'a> {
-        text: &'a str,
+        text: Cell<&'a str>,
     }
 
     // What of a text is still to come.
@@ -100,10 +102,12 @@ mod tests {
 
     impl<'a> Print for Takes<'a> {
         fn print<D: Display + Drop>(&self, value: D) -> io::Result<()> {
-            let mut rest = Rest { text: self.text };
+            let mut rest = Rest {
+                text: self.text.replace(""),
+            };
             match write!(rest, "{value}") {
-                Ok(()) if rest.text.is_empty() => Ok(()),
-                _ => Err(Error::from(ErrorKind::InvalidData)),
+                Ok(()) => nothing_left(rest.text),
+                Err(_) => Err(Error::from(ErrorKind::InvalidData)),
             }
         }
 
@@ -116,18 +120,30 @@ mod tests {
         }
     }
 
+    fn nothing_left(text: &str) -> io::Result<()> {
+        if text.is_empty() {
+            Ok(())
+        } else {
+            Err(Error::from(ErrorKind::InvalidData))
+        }
+    }
+
+    fn writes<T: Copy>(text: &str, call: &str, answer: Result<T, Refusal>) -> io::Result<()> {
+        let rt = Takes {
+            text: Cell::new(text),
+        };
+        told(&rt, call, answer)?;
+        nothing_left(rt.text.get())
+    }
+
     #[test]
     fn told_is_text_at_once() -> io::Result<()> {
-        told(&Takes { text: " issue=0" }, "issue", Ok::<u64, Refusal>(7))?;
-        told(
-            &Takes { text: " última=3" },
+        writes(" issue=0", "issue", Ok::<u64, Refusal>(7))?;
+        writes(
+            " última=3",
             "última",
             Err::<u64, Refusal>(Refusal::QueueFull),
         )?;
-        told(
-            &Takes { text: " =17" },
-            "",
-            Err::<(), Refusal>(Refusal::BadStart),
-        )
+        writes(" =17", "", Err::<(), Refusal>(Refusal::BadStart))
     }
 }
